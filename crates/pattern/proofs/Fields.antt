@@ -16,8 +16,8 @@ use Rattle.tree.specs.Rows.{sort_from, sort_of, fields_in_of}
 use Rattle.tree.specs.Read.{byte_at, wide_at, sort_in}
 use Rattle.tree.specs.Answer.{Peeked, found_value}
 use Rattle.tree.specs.Look.{Seen, onward, look_field, look_slot, look_fields, look_node, seek_fields}
-use Rattle.tree.specs.declared.skip.Found.{Found}
-use Rattle.tree.specs.declared.skip.Found.TheVariants as found_at
+use Rattle.std.proofs.Common.{Some, None}
+use Rattle.std.proofs.Common as std
 use Rattle.tree.proofs.GrammarRows.{NoKey, row_done, row_first, first_sort}
 use Rattle.tree.proofs.Skipping.{seek_none, seek_absent, seek_here}
 use Rattle.lowering.specs.Parts.{stands_in, stands}
@@ -112,11 +112,11 @@ module _ (l : List ℕ) where
   unfolding part_at
   field_none d at i z = rw z
 
-  there : (s : Sort) (o : Option ℕ) (x : ℕ) → found_value (found_at.At x) ≡ o → part_of l s x ≡ part_in l s o
+  there : (s : Sort) (o : Option ℕ) (x : ℕ) → found_value (Some x) ≡ o → part_of l s x ≡ part_in l s o
   there s Option.none x e = let z : ◌≡◌ {A = ℕ} 0 1 = cc in absurd (omega arith)
   there s (some y) x e = let z : x ≡ y = cc in ap (part_of l s) z
 
-  absent_there : (s : Sort) (o : Option ℕ) → found_value found_at.Missing ≡ o → Content.absent ≡ part_in l s o
+  absent_there : (s : Sort) (o : Option ℕ) → found_value None ≡ o → Content.absent ≡ part_in l s o
   absent_there s Option.none e = refl
   absent_there s (some y) e = let z : ◌≡◌ {A = ℕ} 0 1 = cc in absurd (omega arith)
 
@@ -134,21 +134,21 @@ module _ (l : List ℕ) where
             let o : suc d - 1 ≡ d = omega arith in
             ap (λ (fs : List Field). part_in l (sort_at fs i) (seek_fields l (look_node l (suc d - 1)) fs map q i)) w ∙ rw (o, e, g, f, v)
 
-    pub field_at : (r : Content) (code x : ℕ) (s : Found) → found_value s ≡ searched → s ≡ found_at.At x → sort_of code ≡ sort_at (fields_in_of row) i → r ≡ part_of l (sort_of code) x → r ≡ part_at l d at i
+    pub field_at : (r : Content) (code x : ℕ) (s : std.Option ℕ) → found_value s ≡ searched → s ≡ Some x → sort_of code ≡ sort_at (fields_in_of row) i → r ≡ part_of l (sort_of code) x → r ≡ part_at l d at i
     field_at r code x s a b c h = h ∙ ap (λ (t : Sort). part_of l t x) c ∙ there (sort_at (fields_in_of row) i) searched x (sym (ap found_value b) ∙ a) ∙ opened
 
-    pub field_missing : (s : Found) → found_value s ≡ searched → s ≡ found_at.Missing → Content.absent ≡ part_at l d at i
+    pub field_missing : (s : std.Option ℕ) → found_value s ≡ searched → s ≡ None → Content.absent ≡ part_at l d at i
     field_missing s a b = absent_there (sort_at (fields_in_of row) i) searched (sym (ap found_value b) ∙ a) ∙ opened
 
     -- the first field, which stands right behind the bit map
     pub first_past : row ≡ 0 → Content.absent ≡ part_at l d at i
-    first_past h = field_missing found_at.Missing (seek_none l (look_node l (d - 1)) row map q i h) refl
+    first_past h = field_missing None (seek_none l (look_node l (d - 1)) row map q i h) refl
 
     pub first_absent : i ≡ 0 → (row ≡ 0 → ⊥) → map % 2 ≡ 0 → Content.absent ≡ part_at l d at i
-    first_absent y h t = field_missing found_at.Missing (seek_absent l (look_node l (d - 1)) row map q i h y t) refl
+    first_absent y h t = field_missing None (seek_absent l (look_node l (d - 1)) row map q i h y t) refl
 
     pub first_at : (r : Content) → i ≡ 0 → (row ≡ 0 → ⊥) → (map % 2 ≡ 0 → ⊥) → r ≡ part_of l (sort_of (row % 512)) q → r ≡ part_at l d at i
-    first_at r y h t x = field_at r (row % 512) q (found_at.At q) (seek_here l (look_node l (d - 1)) row map q i h y t) refl (code_end row i (omega arith)) x
+    first_at r y h t x = field_at r (row % 512) q (Some q) (seek_here l (look_node l (d - 1)) row map q i h y t) refl (code_end row i (omega arith)) x
 
   -- ---- the key of a property, which stands right behind the bit map, and its value behind that
 

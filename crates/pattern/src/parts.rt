@@ -5,7 +5,6 @@ ghost use Rattle.tree.specs.Look.{look_node};
 ghost use Rattle.lowering.specs.Parts.{stands};
 ghost use Rattle.pattern.specs.Parts.{part_values, sort_at, text_of, part_of, part_at, place_of, run_of, item_place};
 
-use tree::skip::Found;
 use tree::{bytes, grammar, skip};
 
 // What a field holds.
@@ -107,10 +106,9 @@ pub(crate) fn field(tree: &[u8], left: usize, at: usize, i: usize) -> Part
         }
         return held(tree, row % 512, first);
     }
-    let f = skip::seek(tree, row, map, i, left - 1, first);
-    match f {
-        Found::At(q) => held(tree, code_at(row, i), q),
-        Found::Missing => Part::Missing,
+    match skip::seek(tree, row, map, i, left - 1, first) {
+        Some(q) => held(tree, code_at(row, i), q),
+        None => Part::Missing,
     }
 }
 

@@ -13,8 +13,8 @@ returns-then-map-eq0 c = law.first_absent _ _ _ _ _ _ _ _ _ c.if-left-eq0.false 
 pub returns-then-i-eq0 : goal.returns-then-i-eq0
 returns-then-i-eq0 c = law.first_at _ _ _ _ _ _ _ _ _ c.if-left-eq0.false c.peek.ensures.value c.step.ensures c.peek-map.ensures.value c.row-row.ensures c.step-first.ensures _ c.if-i-eq0.true c.if-row-eq0.false c.if-map-eq0.false c.held.ensures
 
-pub returns-in-At : goal.returns-in-At
-returns-in-At c = law.field_at _ _ _ _ _ _ _ _ _ c.if-left-eq0.false c.peek.ensures.value c.step.ensures c.peek-map.ensures.value c.row-row.ensures c.step-first.ensures _ c.code_at.result _ _ c.seek-f.ensures c.in-At.is c.code_at.ensures c.held-in-At.ensures
+pub returns-in-Some : goal.returns-in-Some
+returns-in-Some c = law.field_at _ _ _ _ _ _ _ _ _ c.if-left-eq0.false c.peek.ensures.value c.step.ensures c.peek-map.ensures.value c.row-row.ensures c.step-first.ensures _ c.code_at.result _ _ c.seek.ensures c.in-Some.is c.code_at.ensures c.held-in-Some.ensures
 
-pub returns-in-Missing : goal.returns-in-Missing
-returns-in-Missing c = law.field_missing _ _ _ _ _ _ _ _ _ c.if-left-eq0.false c.peek.ensures.value c.step.ensures c.peek-map.ensures.value c.row-row.ensures c.step-first.ensures _ c.seek-f.ensures c.in-Missing.is
+pub returns-in-None : goal.returns-in-None
+returns-in-None c = law.field_missing _ _ _ _ _ _ _ _ _ c.if-left-eq0.false c.peek.ensures.value c.step.ensures c.peek-map.ensures.value c.row-row.ensures c.step-first.ensures _ c.seek.ensures c.in-None.is

@@ -1,9 +1,7 @@
-use native.Mathlib.Omega.{arith}
+use mathlib.Core.Path.{◌∙◌}
+use borrow.Author.Tests.{lt-leb}
 use Rattle.tree.proofs.Within.{map_above}
 use Rattle.tree.proofs.grammar.fits.Goals as goal
 
-pub returns-then-map-gt63 : goal.returns-then-map-gt63
-returns-then-map-gt63 c = map_above _ _ c.if-map-gt63.true
-
-pub returns : goal.returns
-returns c = c.maps.ensures.fits _ (omega (arith, c.if-map-gt63.false))
+pub returns-else-map-le63 : goal.returns-else-map-le63
+returns-else-map-le63 c = lt-leb _ _ c.if-map-le63.false ∙ map_above _ _ c.if-map-le63.false

@@ -1,30 +1,27 @@
 use mathlib.Core.Path.{sym}
 use Rattle.tree.proofs.GrammarRows.{no_kind, form_none, form_declaration, form_either, form_expression, form_target, form_member, form_leaf, form_kind}
 use Rattle.tree.proofs.grammar.form_at.Goals as goal
+use Rattle.tree.proofs.grammar.form_at.Goals.{then-kind-gt63-via-then-kind-gt63, then-kind-gt63-via-else-kind-gt63+then-kinds-kind-eq0, else-place-gt18-via-then-place-gt18+then-kind-gt33+else-kind-lt38, else-place-gt18-via-then-place-gt18+else-kind-gt33, else-place-gt18-via-else-place-gt18}
+use native.Mathlib.Omega.{arith}
 
 pub returns-then-kind-gt63 : goal.returns-then-kind-gt63
-returns-then-kind-gt63 c = sym (no_kind _ _ c.if-kind-gt63.true)
+returns-then-kind-gt63 c = elim c.then-kind-gt63.branch [ then-kind-gt63-via-then-kind-gt63 w ↦ sym (no_kind _ _ w.if-kind-gt63.true) | then-kind-gt63-via-else-kind-gt63+then-kinds-kind-eq0 w ↦ form_none _ _ _ w.if-kind-gt63.false w.kinds.ensures w.if-kinds-kind-eq0.true ]
 
-pub returns-then-kinds-kind-eq0 : goal.returns-then-kinds-kind-eq0
-returns-then-kinds-kind-eq0 c = form_none _ _ _ c.if-kind-gt63.false c.kinds.ensures c.if-kinds-kind-eq0.true
+pub returns-in-1 : goal.returns-in-1
+returns-in-1 c = form_declaration _ _ _ c.if-kind-gt63.false c.kinds.ensures c.if-kinds-kind-eq0.false c.if-kind-eq-FUNCTION.true c.in-1.is
 
-pub returns-then-place-eq1 : goal.returns-then-place-eq1
-returns-then-place-eq1 c = form_declaration _ _ _ c.if-kind-gt63.false c.kinds.ensures c.if-kinds-kind-eq0.false c.if-kind-eq14.true c.if-place-eq1.true
+pub returns-in-2 : goal.returns-in-2
+returns-in-2 c = form_either _ _ _ c.if-kind-gt63.false c.kinds.ensures c.if-kinds-kind-eq0.false c.if-kind-eq-FUNCTION.true (λ e. omega (arith, e, c.in-2.is)) c.in-2.is
 
-pub returns-then-place-eq2 : goal.returns-then-place-eq2
-returns-then-place-eq2 c = form_either _ _ _ c.if-kind-gt63.false c.kinds.ensures c.if-kinds-kind-eq0.false c.if-kind-eq14.true c.if-place-eq1.false c.if-place-eq2.true
-
-pub returns-then-kind-eq14 : goal.returns-then-kind-eq14
-returns-then-kind-eq14 c = form_expression _ _ _ c.if-kind-gt63.false c.kinds.ensures c.if-kinds-kind-eq0.false c.if-kind-eq14.true c.if-place-eq1.false c.if-place-eq2.false
+pub returns-in_default : goal.returns-in_default
+returns-in_default c = form_expression _ _ _ c.if-kind-gt63.false c.kinds.ensures c.if-kinds-kind-eq0.false c.if-kind-eq-FUNCTION.true c.in_default.in_default-own.rest.0.1 c.in_default.in_default-own.rest.1
 
 pub returns-then-kind-lt38 : goal.returns-then-kind-lt38
-returns-then-kind-lt38 c = form_target _ _ _ c.if-kind-gt63.false c.kinds.ensures c.if-kinds-kind-eq0.false c.if-kind-eq14.false c.if-place-gt18.true c.if-kind-gt33.true c.if-kind-lt38.true
+returns-then-kind-lt38 c = form_target _ _ _ c.if-kind-gt63.false c.kinds.ensures c.if-kinds-kind-eq0.false c.if-kind-eq-FUNCTION.false c.if-place-gt18.true c.if-kind-gt33.true c.if-kind-lt38.true
 
-pub returns-else-kind-lt38 : goal.returns-else-kind-lt38
-returns-else-kind-lt38 c = form_member _ _ _ c.if-kind-gt63.false c.kinds.ensures c.if-kinds-kind-eq0.false c.if-kind-eq14.false c.if-place-gt18.true c.if-kind-gt33.true c.if-kind-lt38.false
-
-pub returns-else-kind-gt33 : goal.returns-else-kind-gt33
-returns-else-kind-gt33 c = form_leaf _ _ _ c.if-kind-gt63.false c.kinds.ensures c.if-kinds-kind-eq0.false c.if-kind-eq14.false c.if-place-gt18.true c.if-kind-gt33.false
-
-pub returns-else-place-gt18 : goal.returns-else-place-gt18
-returns-else-place-gt18 c = form_kind _ _ _ c.if-kind-gt63.false c.kinds.ensures c.if-kinds-kind-eq0.false c.if-kind-eq14.false c.if-place-gt18.false
+pub returns : goal.returns
+returns c = elim c.else-place-gt18.branch [
+  | else-place-gt18-via-then-place-gt18+then-kind-gt33+else-kind-lt38 w ↦ form_member _ _ _ c.if-kind-gt63.false c.kinds.ensures c.if-kinds-kind-eq0.false c.if-kind-eq-FUNCTION.false w.if-place-gt18.true w.if-kind-gt33.true w.if-kind-lt38.false
+  | else-place-gt18-via-then-place-gt18+else-kind-gt33 w ↦ form_leaf _ _ _ c.if-kind-gt63.false c.kinds.ensures c.if-kinds-kind-eq0.false c.if-kind-eq-FUNCTION.false w.if-place-gt18.true w.if-kind-gt33.false
+  | else-place-gt18-via-else-place-gt18 w ↦ form_kind _ _ _ c.if-kind-gt63.false c.kinds.ensures c.if-kinds-kind-eq0.false c.if-kind-eq-FUNCTION.false w.if-place-gt18.false
+]

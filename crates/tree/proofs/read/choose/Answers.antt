@@ -1,14 +1,8 @@
-use mathlib.Core.Path.{◌≡◌}
-use Prim.Native.Nat.{◌-◌}
-use native.Mathlib.Omega.{arith}
 use Rattle.tree.proofs.LeavesRead.{chosen_first, chosen_second}
 use Rattle.tree.proofs.read.choose.Goals as goal
-use Rattle.tree.proofs.read.choose.Goals.{else-at-gt0, then-at-gt0}
 
 pub returns-then-peek-eq1 : goal.returns-then-peek-eq1
-returns-then-peek-eq1 c = let e : c.if-at-gt0.before ≡ c.args.at - 1 = (elim c.if-at-gt0.branch [ then-at-gt0 w ↦ omega arith | else-at-gt0 w ↦ omega arith ]) in
-    chosen_first _ _ _ _ _ (rw e at c.peek.ensures) c.if-peek-eq1.true
+returns-then-peek-eq1 c = chosen_first _ _ _ _ _ (rw c.saturating_sub.ensures at c.peek.ensures) c.if-peek-eq1.true
 
 pub returns-else-peek-eq1 : goal.returns-else-peek-eq1
-returns-else-peek-eq1 c = let e : c.if-at-gt0.before ≡ c.args.at - 1 = (elim c.if-at-gt0.branch [ then-at-gt0 w ↦ omega arith | else-at-gt0 w ↦ omega arith ]) in
-    chosen_second _ _ _ _ _ (rw e at c.peek.ensures) c.if-peek-eq1.false
+returns-else-peek-eq1 c = chosen_second _ _ _ _ _ (rw c.saturating_sub.ensures at c.peek.ensures) c.if-peek-eq1.false

@@ -1,12 +1,10 @@
--- src/skip.rt:122:13
--- src/skip.rt:117:1
 use Rattle.tree.proofs.Skipping as law
 use mathlib.Core.Path.{◌∙◌}
 use Rattle.tree.proofs.skip.skip_item.Goals as goal
-use Rattle.tree.proofs.skip.skip_item.Goals.{else-holes, then-holes+else-peek-eq0}
+use Rattle.tree.proofs.skip.skip_item.Goals.{else-holes-via-else-holes, else-holes-via-then-holes+else-peek-eq0}
 
 pub returns-then-peek-eq0 : goal.returns-then-peek-eq0
 returns-then-peek-eq0 c = c.step.ensures ∙ law.item_hole _ _ _ _ _ c.if-holes.true c.peek.ensures c.if-peek-eq0.true
 
-pub returns : goal.returns
-returns c = c.skip.ensures ∙ (elim c.if-holes.branch [ then-holes+else-peek-eq0 w ↦ law.item_other _ _ _ _ _ w.if-holes.true w.peek.ensures w.if-peek-eq0.false | else-holes w ↦ law.item_node _ _ _ _ w.if-holes.false ])
+pub returns-else-holes : goal.returns-else-holes
+returns-else-holes c = c.skip.ensures ∙ (elim c.else-holes.branch [ else-holes-via-then-holes+else-peek-eq0 w ↦ law.item_other _ _ _ _ _ w.if-holes.true w.peek.ensures w.if-peek-eq0.false | else-holes-via-else-holes w ↦ law.item_node _ _ _ _ w.if-holes.false ])
