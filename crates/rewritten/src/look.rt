@@ -7,7 +7,7 @@ ghost use Rattle.rewritten.specs.Steps.{coming_at, coming_fields, coming_items, 
 ghost use Rattle.rewritten.specs.Look.{Ahead, Coded, is_closed, rest_of, end_for};
 
 use crate::plan;
-use tree::{bytes, grammar};
+use tree::{bytes, grammar, read};
 
 // The codes of what was found.
 pub const NODE: usize = 1;
@@ -101,7 +101,7 @@ fn field(tree: &[u8], at: usize, row: usize) -> usize
     let a = code % 32;
     match class {
         1 => node(tree, a, at),
-        2 => node(tree, plan::choose(tree, a, a + 1, at), at),
+        2 => node(tree, read::choose(tree, a, a + 1, at), at),
         3 => list(tree, a, false, at),
         4 => list(tree, a, true, at),
         5 => text(tree, at),

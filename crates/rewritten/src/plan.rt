@@ -2,10 +2,9 @@
 ghost use Rattle.std.specs.Prelude.{◌≡◌, ◌<◌, ◌^◌};
 ghost use Rattle.tree.specs.Grammar.{form_at};
 ghost use Rattle.tree.specs.Grammar.Stage.{rewritten};
-ghost use Rattle.tree.specs.Read.{chosen_place};
 ghost use Rattle.rewritten.specs.Steps.{Planned};
 
-use tree::{bytes, grammar};
+use tree::{grammar, kinds};
 
 // The fields of a row whose bits stand, ten binary digits a field, the tenth always set. Of most nodes the first or the
 // first two stand.
@@ -41,31 +40,22 @@ pub(crate) fn form_at(place: usize, kind: usize) -> usize
     ensures { result ≡ form_at rewritten place kind }
 {
     match kind {
-        20 => {
-            if grammar::form_at(place, 18) == 0 && grammar::form_at(place, 19) == 0 {
+        kinds::TEMPORARY => {
+            if grammar::form_at(place, kinds::REFERENCE) == 0
+                && grammar::form_at(place, kinds::BINDING) == 0
+            {
                 0
             } else {
-                20
+                kinds::TEMPORARY
             }
         }
-        21 => {
-            if grammar::form_at(place, 24) == 0 {
+        kinds::HELPER => {
+            if grammar::form_at(place, kinds::OBJECT) == 0 {
                 0
             } else {
-                21
+                kinds::HELPER
             }
         }
         _ => grammar::form_at(place, kind),
-    }
-}
-
-// The place of a node that goes by the byte before it: the first if that is 1, else the second.
-pub(crate) fn choose(tree: &[u8], first: usize, second: usize, at: usize) -> usize
-    ensures { result ≡ chosen_place tree.now first second at }
-{
-    if bytes::peek(tree, at.saturating_sub(1)) == 1 {
-        first
-    } else {
-        second
     }
 }

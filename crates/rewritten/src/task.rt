@@ -8,7 +8,7 @@ ghost use Rattle.rewritten.specs.Steps.{coming_node, Planned};
 ghost use Rattle.rewritten.specs.Look.{Ahead, Coded, place_next};
 
 use crate::{look, plan, tables};
-use tree::bytes;
+use tree::{bytes, kinds, read};
 
 // The place where something else than a node comes next.
 pub const NO_NODE: usize = 33;
@@ -27,7 +27,7 @@ pub fn place_next(tree: &[u8], at: usize, top: usize) -> usize
     } else {
         match top / 64 % 16 {
             1 => top / 2 % 32,
-            2 => plan::choose(tree, top / 2 % 32, top / 2 % 32 + 1, at),
+            2 => read::choose(tree, top / 2 % 32, top / 2 % 32 + 1, at),
             _ => NO_NODE,
         }
     }
@@ -41,10 +41,10 @@ fn form_at(places: &[usize], place: usize, kind: usize) -> usize
     if (tables::number_at(places, place) >> kind) % 2 == 0 {
         return 0;
     }
-    if kind == 14 {
+    if kind == kinds::FUNCTION {
         match place {
             1 => 64,
-            2 => 14,
+            2 => kinds::FUNCTION,
             _ => 65,
         }
     } else if 18 < place && 33 < kind && kind < 38 {
@@ -92,10 +92,12 @@ pub fn node(
         return 0;
     }
     let map = bytes::peek(tree, at + 1);
-    if map == 1 && (form == 18 || form == 19 || form == 38) {
+    if map == 1
+        && (form == kinds::REFERENCE || form == kinds::BINDING || form == kinds::STATIC_KEY)
+    {
         return ONE_TEXT;
     }
-    if map == 7 && form == 22 {
+    if map == 7 && form == kinds::LITERAL {
         return BYTE_AND_TEXTS;
     }
     if 63 < map || (tables::number_at(maps, form) >> map) % 2 == 0 {

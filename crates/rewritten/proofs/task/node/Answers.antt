@@ -18,10 +18,10 @@ returns-then-form-eq0 c = (λ e _ _. ahead.node_wrong _ _ _ _ _ c.peek-kind.ensu
 pub overflow_add-at : goal.overflow_add-at
 overflow_add-at c = let h : c.args.at < length c.args.tree.now = c.peek-kind.ensures.within (omega (arith, c.if-kind-gt63.false)) in omega arith
 
-pub returns-then-form-eq38 : goal.returns-then-form-eq38
+pub returns-then-form-eq-STATIC_KEY : goal.returns-then-form-eq-STATIC_KEY
 unfolding map_numbers plan_numbers
-returns-then-form-eq38 c = (
-  λ e _ _. (elim c.if-form-eq38.either [
+returns-then-form-eq-STATIC_KEY c = (
+  λ e _ _. (elim c.if-form-eq-STATIC_KEY.either [
     | inl i ↦ law.leaf_fits _ _ _ _ c.peek-kind.ensures _ (c.form_at-form.ensures e) c.if-form-eq0.false _ c.peek-map.ensures 18 1 1 672 i c.if-map-eq1.true (omega arith) refl refl refl
     | inr (inl i) ↦ law.leaf_fits _ _ _ _ c.peek-kind.ensures _ (c.form_at-form.ensures e) c.if-form-eq0.false _ c.peek-map.ensures 19 1 1 672 i.1 c.if-map-eq1.true (omega arith) refl refl refl
     | inr (inr i) ↦ law.leaf_fits _ _ _ _ c.peek-kind.ensures _ (c.form_at-form.ensures e) c.if-form-eq0.false _ c.peek-map.ensures 38 1 1 672 i.2 c.if-map-eq1.true (omega arith) refl refl refl
@@ -30,9 +30,9 @@ returns-then-form-eq38 c = (
   λ _. law.both_stand _ _ _ c.peek-map.ensures (omega (arith, c.if-map-eq1.true)),
 )
 
-pub returns-then-form-eq22 : goal.returns-then-form-eq22
+pub returns-then-form-eq-LITERAL : goal.returns-then-form-eq-LITERAL
 unfolding map_numbers plan_numbers
-returns-then-form-eq22 c = (λ e _ _. law.leaf_fits _ _ _ _ c.peek-kind.ensures _ (c.form_at-form.ensures e) c.if-form-eq0.false _ c.peek-map.ensures 22 7 3 0x2a0a8306 c.if-form-eq22.true c.if-map-eq7.true (omega arith) refl refl refl, ahead.coded 1 0x2a0a8306 (omega arith), λ _. law.both_stand _ _ _ c.peek-map.ensures (omega (arith, c.if-map-eq7.true)))
+returns-then-form-eq-LITERAL c = (λ e _ _. law.leaf_fits _ _ _ _ c.peek-kind.ensures _ (c.form_at-form.ensures e) c.if-form-eq0.false _ c.peek-map.ensures 22 7 3 0x2a0a8306 c.if-form-eq-LITERAL.true c.if-map-eq7.true (omega arith) refl refl refl, ahead.coded 1 0x2a0a8306 (omega arith), λ _. law.both_stand _ _ _ c.peek-map.ensures (omega (arith, c.if-map-eq7.true)))
 
 pub returns-then-map-gt63 : goal.returns-then-map-gt63
 returns-then-map-gt63 c = (
