@@ -1,12 +1,13 @@
-// What stands next in the innermost task, as one number: no function hands it over in memory. Its last four binary digits
-// are a code, 0 where nothing that may stand there does. Above them is the frame of a node or a list without its last
-// digit, a text's length, or the byte, mark or number.
+// What stands next in the innermost task, as one number and no enum: a step that went through memory took four times as long
+// (docs/DECISIONS-PROOFS.md, "What stands next is a number"). Its last four binary digits are a code, 0 where nothing that
+// may stand there does. Above them is the frame of a node or a list without its last digit, a text's length, or the byte,
+// mark or number.
 ghost use Rattle.std.specs.Prelude.{◌≡◌, false, ℕ, ◌*◌, ◌/◌, ◌%◌, ◌+◌, ◌-◌, ◌≤◌};
 ghost use Rattle.tree.specs.Grammar.{Sort};
 ghost use Rattle.rewritten.specs.Steps.{coming_at, coming_fields, coming_items, coming_node, coming_piece, list_sort};
 ghost use Rattle.rewritten.specs.Look.{Ahead, Coded, is_closed, rest_of, end_for};
 
-use crate::plan;
+use crate::{class, plan};
 use tree::{bytes, grammar, read};
 
 // The codes of what was found.
@@ -97,18 +98,17 @@ fn field(tree: &[u8], at: usize, row: usize) -> usize
     ensures { (row ≡ 0 → ⊥) → Ahead tree.now at (row / 1024 * 2) (λ frames deep. coming_fields tree.now frames at deep row) result }
 {
     let code = row % 512;
-    let class = code / 32;
     let a = code % 32;
-    match class {
-        1 => node(tree, a, at),
-        2 => node(tree, read::choose(tree, a, a + 1, at), at),
-        3 => list(tree, a, false, at),
-        4 => list(tree, a, true, at),
-        5 => text(tree, at),
-        6 => mark(tree, at),
-        7 => byte(tree, 0, a, at),
-        8 => byte(tree, 1, a, at),
-        9 => byte(tree, 2, a, at),
+    match code / 32 {
+        class::NODE => node(tree, a, at),
+        class::CHOSEN => node(tree, read::choose(tree, a, a + 1, at), at),
+        class::LIST => list(tree, a, false, at),
+        class::GAPS => list(tree, a, true, at),
+        class::TEXT => text(tree, at),
+        class::MARK => mark(tree, at),
+        class::BYTE => byte(tree, 0, a, at),
+        class::BYTE_FROM_1 => byte(tree, 1, a, at),
+        class::BYTE_FROM_2 => byte(tree, 2, a, at),
         _ => number(tree, at),
     }
 }

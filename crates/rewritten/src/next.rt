@@ -3,8 +3,8 @@ ghost use Rattle.std.specs.Prelude.{◌≡◌, ◌+◌, ◌/◌, ◌%◌, ◌≤
 ghost use Rattle.rewritten.specs.Steps.{StepIs, step_closed, coming_at, start, Took};
 ghost use Rattle.rewritten.specs.Look.{deeper, end_for, frames_for, cursor_for};
 
-use crate::look;
 use crate::step::{Cursor, Event, Step};
+use crate::{look, tables};
 use tree::{bytes, skip};
 
 // Where a tour starts.
@@ -22,7 +22,7 @@ pub fn begin() -> Cursor
 pub fn frame_at(frames: &[usize], i: usize) -> usize
     ensures { result ≡ get_or frames.now i 0 }
 {
-    frames.get(i).copied().unwrap_or(0)
+    tables::number_at(frames, i)
 }
 
 // The innermost task is done, a node or a list.

@@ -20,6 +20,7 @@ pub(crate) fn plan(row: usize, map: usize) -> usize
     if map == 3 && 1023 < row {
         return 512 + row % 512 + 1024 * (512 + row / 1024 % 512);
     }
+    // No counted loop: it ends where no field is left.
     let mut left = row;
     let mut bits = map;
     let mut made = 0;

@@ -7,14 +7,13 @@ ghost use Rattle.rewritten.specs.Numbers.{place_numbers, plan_numbers, map_numbe
 ghost use Rattle.rewritten.specs.Steps.{coming_node, Planned};
 ghost use Rattle.rewritten.specs.Look.{Ahead, Coded, place_next};
 
-use crate::{look, plan, tables};
+use crate::{class, look, plan, tables};
 use tree::{bytes, kinds, read};
 
 // The place where something else than a node comes next.
 pub const NO_NODE: usize = 33;
 
-// The place of the node that comes next, or `NO_NODE`. No `Option`: the places are numbers of the tables, and this one has
-// no row.
+// The place of the node that comes next, or `NO_NODE`, a place without a row.
 pub fn place_next(tree: &[u8], at: usize, top: usize) -> usize
     ensures { result ≡ place_next tree.now at top }
 {
@@ -26,8 +25,8 @@ pub fn place_next(tree: &[u8], at: usize, top: usize) -> usize
         }
     } else {
         match top / 64 % 16 {
-            1 => top / 2 % 32,
-            2 => read::choose(tree, top / 2 % 32, top / 2 % 32 + 1, at),
+            class::NODE => top / 2 % 32,
+            class::CHOSEN => read::choose(tree, top / 2 % 32, top / 2 % 32 + 1, at),
             _ => NO_NODE,
         }
     }
@@ -67,7 +66,7 @@ fn planned(plan: usize, map: usize) -> usize
     }
 }
 
-// What is found of a node of one text, and of one of a byte and two texts: their plans are known.
+// What is found of a node of one text, and of one of a byte and two texts, as `look` has it: their plans are known.
 pub const ONE_TEXT: usize = 10753;
 
 pub const BYTE_AND_TEXTS: usize = 11285311585;
