@@ -3,8 +3,7 @@
 #![tactic(auto)]
 
 use ordering::compare;
-use ordering::compare::Answer;
-use ordering::verdict::Verdict;
+use std::cmp::Ordering;
 use tree::bytes;
 
 // Standard input and output.
@@ -15,40 +14,25 @@ const STDOUT_FILENO: i32 = 1;
 // Two lengths, two trees of 32,768 bytes, and a byte behind them, so that a longer input is seen.
 const ROOM: usize = 65541;
 
-fn report(answer: Answer) {
-    match answer {
-        Answer::Said(v) => match v {
-            Verdict::Less => {
-                io::write_all(STDOUT_FILENO, b"less\n");
-            }
-            Verdict::Equal => {
-                io::write_all(STDOUT_FILENO, b"equal\n");
-            }
-            Verdict::Greater => {
-                io::write_all(STDOUT_FILENO, b"greater\n");
-            }
-        },
-        Answer::Refused => {
-            io::write_all(STDOUT_FILENO, b"3\n");
-        }
-    }
+fn report(order: Option<Ordering>) {
+    let word: &[u8] = match order {
+        Some(Ordering::Less) => b"less\n",
+        Some(Ordering::Equal) => b"equal\n",
+        Some(Ordering::Greater) => b"greater\n",
+        None => b"3\n",
+    };
+    io::write_all(STDOUT_FILENO, word);
 }
 
-// The order of the pair that an input is.
-fn ordered(input: &[u8]) -> Answer {
+// The order of the pair that an input is, if it is one.
+fn ordered(input: &[u8]) -> Option<Ordering> {
     let a = bytes::wide_at(input, 0);
-    if 32768 < a {
-        return Answer::Refused;
-    }
-    if input.len() < a + 4 {
-        return Answer::Refused;
+    if 32768 < a || input.len() < a + 4 {
+        return None;
     }
     let b = bytes::wide_at(input, a + 2);
-    if 32768 < b {
-        return Answer::Refused;
-    }
-    if input.len() != a + b + 4 {
-        return Answer::Refused;
+    if 32768 < b || input.len() != a + b + 4 {
+        return None;
     }
     compare::order(&input[2..a + 2], &input[a + 4..a + b + 4])
 }

@@ -11,14 +11,14 @@ use Rattle.tree.specs.Tree.Piece.{one, list, text, byte, mark, number}
 use Rattle.tree.specs.Tree.Items.{none, hole, item}
 use Rattle.rewritten.specs.Events.{Event, events, events_fields, events_piece, events_items}
 use Rattle.rewritten.specs.Events.Event.{begins, ends, opens, closes}
-use Rattle.ordering.specs.declared.verdict.Verdict.{Verdict}
-use Rattle.ordering.specs.Verdicts.{or_else, by_value, by_text, lexical}
-use Rattle.ordering.specs.declared.verdict.Verdict.TheVariants.{Less, Equal, Greater}
+use Rattle.std.specs.declared.cmp.Ordering.{Ordering}
+use Rattle.ordering.specs.Verdicts.{or_else, by_value, lexical}
+use Rattle.std.specs.declared.cmp.Ordering.TheVariants.{Less, Equal, Greater}
 use Rattle.ordering.specs.Order.{compare, compare_fields, compare_piece, compare_items, by_key_of, by_event, first_difference}
 use Rattle.ordering.proofs.LexicalOrder.{or_nothing, or_or, value_same}
 
 -- kind and bit map, then what stands
-begun : (k m f r z : Verdict) → (m ≡ Equal → r ≡ or_else f z) → or_else (or_else k (or_else m Equal)) r ≡ or_else (or_else k (or_else m f)) z
+begun : (k m f r z : Ordering) → (m ≡ Equal → r ≡ or_else f z) → or_else (or_else k (or_else m Equal)) r ≡ or_else (or_else k (or_else m f)) z
 begun Less m f r z h = refl
 begun Equal Less f r z h = refl
 begun Equal Equal f r z h = h refl
@@ -32,7 +32,7 @@ nothing_stands (absent fs) e = let w : 2 * map_of fs ≡ 0 = e in nothing_stands
 nothing_stands (field p fs) e = let w : 1 + 2 * map_of fs ≡ 0 = e in absurd (omega arith)
 
 -- two parts, each against its own
-parts : (a b x c d y : List Event) (v w : Verdict) → first_difference (a ++ (b ++ x)) (c ++ (d ++ y)) ≡ or_else v (first_difference (b ++ x) (d ++ y)) → first_difference (b ++ x) (d ++ y) ≡ or_else w (first_difference x y) → first_difference ((a ++ b) ++ x) ((c ++ d) ++ y) ≡ or_else (or_else v w) (first_difference x y)
+parts : (a b x c d y : List Event) (v w : Ordering) → first_difference (a ++ (b ++ x)) (c ++ (d ++ y)) ≡ or_else v (first_difference (b ++ x) (d ++ y)) → first_difference (b ++ x) (d ++ y) ≡ or_else w (first_difference x y) → first_difference ((a ++ b) ++ x) ((c ++ d) ++ y) ≡ or_else (or_else v w) (first_difference x y)
 parts a b x c d y v w e f =
     ap₂ first_difference (append_assoc a b x) (append_assoc c d y)
     ∙ e
@@ -41,28 +41,28 @@ parts a b x c d y v w e f =
 
 -- a node against an event that no node begins with
 node_before : (m : Node) (x y : List Event) (f : Event) → ((at k p : ℕ) → by_event (begins at k p) f ≡ Less) → first_difference (events m ++ x) (f ∷ y) ≡ Less
-unfolding first_difference lexical events
-node_before (node at k fs) x y f h = ap (λ (v : Verdict). or_else v (lexical by_event ((events_fields fs ++ (ends ∷ [])) ++ x) y)) (h at k (map_of fs))
+unfolding first_difference events
+node_before (node at k fs) x y f h = ap (λ (v : Ordering). or_else v (lexical by_event ((events_fields fs ++ (ends ∷ [])) ++ x) y)) (h at k (map_of fs))
 
 node_after : (m : Node) (x y : List Event) (f : Event) → ((at k p : ℕ) → by_event f (begins at k p) ≡ Greater) → first_difference (f ∷ y) (events m ++ x) ≡ Greater
-unfolding first_difference lexical events
-node_after (node at k fs) x y f h = ap (λ (v : Verdict). or_else v (lexical by_event y ((events_fields fs ++ (ends ∷ [])) ++ x))) (h at k (map_of fs))
+unfolding first_difference events
+node_after (node at k fs) x y f h = ap (λ (v : Ordering). or_else v (lexical by_event y ((events_fields fs ++ (ends ∷ [])) ++ x))) (h at k (map_of fs))
 
 item_before : (m : Node) (x y : List Event) (f : Event) → ((at k p : ℕ) → by_event f (begins at k p) ≡ Less) → first_difference (f ∷ y) (events m ++ x) ≡ Less
-unfolding first_difference lexical events
-item_before (node at k fs) x y f h = ap (λ (v : Verdict). or_else v (lexical by_event y ((events_fields fs ++ (ends ∷ [])) ++ x))) (h at k (map_of fs))
+unfolding first_difference events
+item_before (node at k fs) x y f h = ap (λ (v : Ordering). or_else v (lexical by_event y ((events_fields fs ++ (ends ∷ [])) ++ x))) (h at k (map_of fs))
 
 item_after : (m : Node) (x y : List Event) (f : Event) → ((at k p : ℕ) → by_event (begins at k p) f ≡ Greater) → first_difference (events m ++ x) (f ∷ y) ≡ Greater
-unfolding first_difference lexical events
-item_after (node at k fs) x y f h = ap (λ (v : Verdict). or_else v (lexical by_event ((events_fields fs ++ (ends ∷ [])) ++ x) y)) (h at k (map_of fs))
+unfolding first_difference events
+item_after (node at k fs) x y f h = ap (λ (v : Ordering). or_else v (lexical by_event ((events_fields fs ++ (ends ∷ [])) ++ x) y)) (h at k (map_of fs))
 
 -- a list's events with its end
 lists : (x y : List Event) (is js : Items) → first_difference (events_items is ++ (closes ∷ x)) (events_items js ++ (closes ∷ y)) ≡ or_else (compare_items is js) (first_difference x y) → first_difference (events_piece (list is) ++ x) (events_piece (list js) ++ y) ≡ or_else (compare_items is js) (first_difference x y)
-unfolding first_difference lexical by_event by_key_of by_text by_value events_piece
+unfolding first_difference by_event by_key_of events_piece
 lists x y is js e = ap₂ first_difference (append_assoc (events_items is) (closes ∷ []) x) (append_assoc (events_items js) (closes ∷ []) y) ∙ e
 
 mutual
-  unfolding compare compare_fields compare_piece compare_items events events_fields events_piece events_items first_difference lexical by_event by_key_of by_text by_value map_of
+  unfolding compare compare_fields compare_piece compare_items events events_fields events_piece events_items first_difference by_event by_key_of map_of
 
   pub node_law : (m n : Node) (x y : List Event) → first_difference (events m ++ x) (events n ++ y) ≡ or_else (compare m n) (first_difference x y)
   node_law (node at k fs) (node at' k' gs) x y =
@@ -102,21 +102,21 @@ mutual
   piece_law (byte b) (one n) x y = node_after n y x (Event.byte b) (λ at k p. refl)
   piece_law (byte b) (list js) x y = refl
   piece_law (byte b) (text cs) x y = refl
-  piece_law (byte b) (byte c) x y = ap (λ (v : Verdict). or_else v (first_difference x y)) (or_nothing (by_value b c))
+  piece_law (byte b) (byte c) x y = ap (λ (v : Ordering). or_else v (first_difference x y)) (or_nothing (by_value b c))
   piece_law (byte b) (mark v) x y = refl
   piece_law (byte b) (number v) x y = refl
   piece_law (mark u) (one n) x y = node_after n y x (Event.mark u) (λ at k p. refl)
   piece_law (mark u) (list js) x y = refl
   piece_law (mark u) (text cs) x y = refl
   piece_law (mark u) (byte c) x y = refl
-  piece_law (mark u) (mark v) x y = ap (λ (v : Verdict). or_else v (first_difference x y)) (or_nothing (by_value u v))
+  piece_law (mark u) (mark v) x y = ap (λ (v : Ordering). or_else v (first_difference x y)) (or_nothing (by_value u v))
   piece_law (mark u) (number v) x y = refl
   piece_law (number u) (one n) x y = node_after n y x (Event.number u) (λ at k p. refl)
   piece_law (number u) (list js) x y = refl
   piece_law (number u) (text cs) x y = refl
   piece_law (number u) (byte c) x y = refl
   piece_law (number u) (mark v) x y = refl
-  piece_law (number u) (number v) x y = ap (λ (v : Verdict). or_else v (first_difference x y)) (or_nothing (by_value u v))
+  piece_law (number u) (number v) x y = ap (λ (v : Ordering). or_else v (first_difference x y)) (or_nothing (by_value u v))
 
   items_law : (is js : Items) (x y : List Event) → first_difference (events_items is ++ (closes ∷ x)) (events_items js ++ (closes ∷ y)) ≡ or_else (compare_items is js) (first_difference x y)
   items_law none none x y = refl
@@ -135,7 +135,7 @@ mutual
 
 -- the law: what two trees are is the first difference of what is met in them
 pub compare_events : (m n : Node) → compare m n ≡ first_difference (events m) (events n)
-unfolding first_difference lexical
+unfolding first_difference
 compare_events m n =
     sym (or_nothing (compare m n))
     ∙ sym (node_law m n [] [])

@@ -2,7 +2,6 @@ pub mod LexicalOrder
 pub mod Bridge
 pub mod Same
 pub mod TreeOrder
-pub mod TextsCompared
 pub mod EventKeys
 pub mod TablePlaces
 pub mod Sides

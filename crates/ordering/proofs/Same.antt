@@ -11,11 +11,12 @@ use Rattle.tree.specs.Tree.Piece.{one, list, text, byte, mark, number}
 use Rattle.tree.specs.Tree.Items.{none, hole, item}
 use Rattle.equal.specs.Renaming.{unplaced, unplaced_fields, unplaced_piece, unplaced_items}
 use Rattle.equal.proofs.Unplaced.{map_unplaced}
-use Rattle.ordering.specs.declared.verdict.Verdict.{Verdict}
-use Rattle.ordering.specs.declared.verdict.Verdict.TheVariants.{Equal}
-use Rattle.ordering.specs.Verdicts.{or_else, by_value, by_text}
+use Rattle.std.specs.declared.cmp.Ordering.{Ordering}
+use Rattle.std.specs.declared.cmp.Ordering.TheVariants.{Equal}
+use Rattle.ordering.specs.Verdicts.{or_else, by_value}
 use Rattle.ordering.specs.Order.{compare, compare_fields, compare_piece, compare_items}
-use Rattle.ordering.proofs.LexicalOrder.{less_not_equal, greater_not_equal, both_equal, self, value_orders, text_orders, value_same, text_same}
+use Rattle.std.proofs.lemmas.Cmp.{nat_cmp_total, nat_list_cmp_total, tied_itself}
+use Rattle.ordering.proofs.LexicalOrder.{less_not_equal, greater_not_equal, both_equal, value_same, text_same}
 
 abbrev joined : List ℕ → List ℕ → List ℕ
 joined xs ys = xs ++ ys
@@ -102,11 +103,11 @@ mutual
 
 -- ---- positions play no part
 
-two_equal : (v w : Verdict) → v ≡ Equal → w ≡ Equal → or_else v w ≡ Equal
+two_equal : (v w : Ordering) → v ≡ Equal → w ≡ Equal → or_else v w ≡ Equal
 two_equal v w e f = ap₂ or_else e f
 
 own_value : (a : ℕ) → by_value a a ≡ Equal
-own_value a = self by_value value_orders a
+own_value a = tied_itself nat_cmp_total a
 
 mutual
   unfolding compare compare_fields compare_piece compare_items unplaced unplaced_fields unplaced_piece unplaced_items
@@ -124,7 +125,7 @@ mutual
   piece_unplaced : (p : Piece) → compare_piece p (unplaced_piece p) ≡ Equal
   piece_unplaced (one n) = node_unplaced n
   piece_unplaced (list is) = items_unplaced is
-  piece_unplaced (text bs) = self by_text text_orders bs
+  piece_unplaced (text bs) = tied_itself nat_list_cmp_total bs
   piece_unplaced (byte b) = own_value b
   piece_unplaced (mark n) = own_value n
   piece_unplaced (number n) = own_value n

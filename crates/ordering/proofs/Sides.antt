@@ -25,7 +25,8 @@ use Rattle.ordering.specs.Places.{PlacedAs}
 use Rattle.ordering.specs.Sides.{Within, number_in, Coming, Moved}
 use Rattle.ordering.specs.declared.place.Placed.{Placed}
 use Rattle.ordering.specs.declared.side.Side.{Side}
-use Rattle.ordering.specs.declared.side.Move.TheVariants.{Met, Ended}
+use Rattle.std.specs.declared.option.Option.{Option}
+use Rattle.std.specs.declared.option.Option.TheVariants.{Some, None}
 use Rattle.ordering.proofs.TablePlaces.{knows_none, place_is, count_is, knows_placed, few_more}
 
 -- ---- events
@@ -41,17 +42,21 @@ stands_within l at (Byte b) q s h = tt
 stands_within l at (Mark n) q s h = tt
 stands_within l at (Number n) q s h = tt
 
+abbrev held : Option ℕ → ℕ
+held None = 0
+held (Some n) = suc n
+
 -- a number event, by its number
-is_number : (l : List ℕ) (e : told.Event) (n : ℕ) → n ≡ number_in (event_in l e) → n < 65536 → e ≡ Number n
-is_number l (Begins p kind map) n w h = absurd (omega arith)
-is_number l Ends n w h = absurd (omega arith)
-is_number l (Opens m) n w h = absurd (omega arith)
-is_number l Closes n w h = absurd (omega arith)
-is_number l Hole n w h = absurd (omega arith)
-is_number l (Text p m) n w h = absurd (omega arith)
-is_number l (Byte b) n w h = absurd (omega arith)
-is_number l (Mark m) n w h = absurd (omega arith)
-is_number l (Number m) n w h = ap Number (sym w)
+is_number : (l : List ℕ) (e : told.Event) (n : ℕ) → Some n ≡ number_in (event_in l e) → e ≡ Number n
+is_number l (Begins p kind map) n w = let z : suc n ≡ 0 = ap held w in absurd (omega arith)
+is_number l Ends n w = let z : suc n ≡ 0 = ap held w in absurd (omega arith)
+is_number l (Opens m) n w = let z : suc n ≡ 0 = ap held w in absurd (omega arith)
+is_number l Closes n w = let z : suc n ≡ 0 = ap held w in absurd (omega arith)
+is_number l Hole n w = let z : suc n ≡ 0 = ap held w in absurd (omega arith)
+is_number l (Text p m) n w = let z : suc n ≡ 0 = ap held w in absurd (omega arith)
+is_number l (Byte b) n w = let z : suc n ≡ 0 = ap held w in absurd (omega arith)
+is_number l (Mark m) n w = let z : suc n ≡ 0 = ap held w in absurd (omega arith)
+is_number l (Number m) n w = let z : suc n ≡ suc m = ap held w in let e : m ≡ n = omega arith in ap Number e
 
 -- what is no temporary's number stays as it is
 record Plain (t : Bool) (numbers : List ℕ) (e : Event) : Type 0 where
@@ -69,16 +74,16 @@ plain_elsewhere numbers (Event.byte b) = record { stays = refl; none_met = refl 
 plain_elsewhere numbers (Event.mark n) = record { stays = refl; none_met = refl }
 plain_elsewhere numbers (Event.number n) = record { stays = refl; none_met = refl }
 
-plain_other : (l : List ℕ) (at q : ℕ) (numbers : List ℕ) (e : told.Event) → Stands l at e q → 65536 ≤ number_in (event_in l e) → Plain true numbers (event_in l e)
-plain_other l at q numbers (Begins p kind map) s h = record { stays = refl; none_met = refl }
-plain_other l at q numbers Ends s h = record { stays = refl; none_met = refl }
-plain_other l at q numbers (Opens n) s h = record { stays = refl; none_met = refl }
-plain_other l at q numbers Closes s h = record { stays = refl; none_met = refl }
-plain_other l at q numbers Hole s h = record { stays = refl; none_met = refl }
-plain_other l at q numbers (Text p n) s h = record { stays = refl; none_met = refl }
-plain_other l at q numbers (Byte b) s h = record { stays = refl; none_met = refl }
-plain_other l at q numbers (Mark n) s h = record { stays = refl; none_met = refl }
-plain_other l at q numbers (Number n) s h = absurd (let w : n < 65536 = s.1 in omega arith)
+plain_other : (l : List ℕ) (numbers : List ℕ) (e : told.Event) → None ≡ number_in (event_in l e) → Plain true numbers (event_in l e)
+plain_other l numbers (Begins p kind map) h = record { stays = refl; none_met = refl }
+plain_other l numbers Ends h = record { stays = refl; none_met = refl }
+plain_other l numbers (Opens n) h = record { stays = refl; none_met = refl }
+plain_other l numbers Closes h = record { stays = refl; none_met = refl }
+plain_other l numbers Hole h = record { stays = refl; none_met = refl }
+plain_other l numbers (Text p n) h = record { stays = refl; none_met = refl }
+plain_other l numbers (Byte b) h = record { stays = refl; none_met = refl }
+plain_other l numbers (Mark n) h = record { stays = refl; none_met = refl }
+plain_other l numbers (Number n) h = let z : 0 ≡ suc n = ap held h in absurd (omega arith)
 
 -- ---- a side
 
@@ -124,7 +129,7 @@ module _ (l fs later table : List ℕ) (s : Side) (es : List Event) (g : Coming 
     fell = step_falls l fs later s.cursor (length fs) g.tour e c o
 
     -- an event that stays as it is
-    side_plain : Plain s.temporary g.numbers (event_in l e) → Moved l later table s es (Met e (record { cursor = c; temporary = t; met = s.met }))
+    side_plain : Plain s.temporary g.numbers (event_in l e) → Moved l later table s es (Some (e, record { cursor = c; temporary = t; met = s.met }))
     side_plain p = record {
       so = record {
         rest = placed_all t g.numbers left_rest.rest;
@@ -151,24 +156,23 @@ module _ (l fs later table : List ℕ) (s : Side) (es : List Event) (g : Coming 
       };
     }
 
-    pub side_elsewhere : s.temporary ≡ false → Moved l later table s es (Met e (record { cursor = c; temporary = t; met = s.met }))
+    pub side_elsewhere : s.temporary ≡ false → Moved l later table s es (Some (e, record { cursor = c; temporary = t; met = s.met }))
     side_elsewhere h = side_plain (subst (λ (b : Bool). Plain b g.numbers (event_in l e)) (sym h) (plain_elsewhere g.numbers (event_in l e)))
 
-    pub side_other : s.temporary ≡ true → (n : ℕ) → ((tree : List ℕ) → n ≡ number_in (event_in tree e)) → 65536 ≤ n → Moved l later table s es (Met e (record { cursor = c; temporary = t; met = s.met }))
-    side_other h n is many =
-        let w : n ≡ number_in (event_in l e) = is l in
-        side_plain (subst (λ (b : Bool). Plain b g.numbers (event_in l e)) (sym h) (plain_other l s.cursor.at c.at g.numbers e o.stands (omega arith)))
+    pub side_other : s.temporary ≡ true → ((tree : List ℕ) → None ≡ number_in (event_in tree e)) → Moved l later table s es (Some (e, record { cursor = c; temporary = t; met = s.met }))
+    side_other h is = side_plain (subst (λ (b : Bool). Plain b g.numbers (event_in l e)) (sym h) (plain_other l g.numbers e (is l)))
 
     -- the number of a temporary
-    pub side_number : s.temporary ≡ true → (n : ℕ) → ((tree : List ℕ) → n ≡ number_in (event_in tree e)) → n < 65536 → (after : List ℕ) (placed : Placed) → (s.met < 65535 → PlacedAs table after s.met n placed) → Moved l later after s es (Met (Number placed.place) (record { cursor = c; temporary = t; met = placed.met }))
-    side_number h n is small after placed p =
-        let e-is : e ≡ Number n = is_number l e n (is l) small in
+    pub side_number : s.temporary ≡ true → (n : ℕ) → ((tree : List ℕ) → Some n ≡ number_in (event_in tree e)) → (after : List ℕ) (placed : Placed) → (s.met < 65535 → PlacedAs table after s.met n placed) → Moved l later after s es (Some (Number placed.place, record { cursor = c; temporary = t; met = placed.met }))
+    side_number h n is after placed p =
+        let e-is : e ≡ Number n = is_number l e n (is l) in
         let b : length g.numbers ≤ s.cursor.at = g.few in
         let k : s.met ≡ length g.numbers = g.counted in
         let i : s.cursor.at ≤ length l = g.tour.inside in
         let m : length l ≤ 32768 = g.short in
         let now : PlacedAs table after s.met n placed = p (omega arith) in
         let st : Stands l s.cursor.at (Number n) c.at = subst (λ (x : told.Event). Stands l s.cursor.at x c.at) e-is o.stands in
+        let small : n < 65536 = st.1 in
         let d : c.at ≡ s.cursor.at + 2 = st.2 in
         let v : length (meet g.numbers n) ≤ suc (length g.numbers) = few_more table g.numbers g.known n s.met small k after placed now in
         record {
@@ -200,13 +204,13 @@ module _ (l fs later table : List ℕ) (s : Side) (es : List Event) (g : Coming 
         }
 
   -- nothing is left
-  pub side_done : r ≡ Done → Moved l later table s es Ended
+  pub side_done : r ≡ Done → Moved l later table s es None
   unfolding placed_all
   side_done w = record { so = sym g.placed ∙ ap (placed_all s.temporary g.numbers) (rest_done l fs later s.cursor g.left g.end g.next g.comes r took w) }
 
   -- a tree that was read is not refused, and has frames enough
-  pub side_refused : r ≡ Refused → Moved l later table s es Ended
+  pub side_refused : r ≡ Refused → Moved l later table s es None
   side_refused w = absurd (rest_refused l fs later s.cursor g.left g.end g.next g.comes r took w)
 
-  pub side_full : r ≡ Full → Moved l later table s es Ended
+  pub side_full : r ≡ Full → Moved l later table s es None
   side_full w = absurd (frames_suffice l fs later s.cursor (length fs) g.tour r took w g.short g.enough)

@@ -9,22 +9,10 @@ use lib.Dec.{eqb}
 use lib.ListN.{length, get_or, set, length-set}
 use lib.Seq.{get_or-set_same, get_or-set_other}
 use borrow.Author.Tests.{eq-eqb, ne_eqb}
-use Rattle.rewritten.proofs.Marks.{by_same, set_past}
+use Rattle.rewritten.proofs.Marks.{by_same}
 use Rattle.equal.specs.Met.{place_in, meet, place}
 use Rattle.ordering.specs.Places.{Knows, PlacedAs}
 use Rattle.ordering.specs.declared.place.Placed.{Placed}
-
--- ---- the code's ways
-
-module _ (table : List ℕ) (met n p : ℕ) (is : p ≡ get_or table n 0) where
-  pub placed_new : p ≡ 0 → PlacedAs table (set table n (met + 1)) met n (record { place = met + 1; met = met + 1 })
-  placed_new z = let e : eqb (get_or table n 0) 0 ≡ true = eq-eqb (get_or table n 0) 0 (sym is ∙ z) in record { place = rw e; count = rw e; noted = rw e }
-
-  pub placed_past : p ≡ 0 → length table ≤ n → PlacedAs table table met n (record { place = met + 1; met = met + 1 })
-  placed_past z h = let e : eqb (get_or table n 0) 0 ≡ true = eq-eqb (get_or table n 0) 0 (sym is ∙ z) in record { place = rw e; count = rw e; noted = rw e (set_past table n (met + 1) h) }
-
-  pub placed_old : (p ≡ 0 → ⊥) → PlacedAs table table met n (record { place = p; met = met })
-  placed_old z = let e : eqb (get_or table n 0) 0 ≡ false = ne_eqb (get_or table n 0) 0 (λ w. z (is ∙ w)) in record { place = rw e is; count = rw e; noted = rw e }
 
 -- ---- a number that is placed
 

@@ -1,6 +1,6 @@
 -- The laws of the order, for all trees; and the order as the first difference of two tours, each with its own table of temporaries.
 -- Assumes nothing.
-use mathlib.Core.Path.{◌≡◌, refl, sym, ap, ap₂, ◌∙◌}
+use mathlib.Core.Path.{◌≡◌, refl, sym, ap, ap₂, subst, ◌∙◌}
 use mathlib.Core.Bool.{Bool, false}
 use mathlib.Core.Logic.{◌⊎◌, inl, inr}
 use mathlib.Core.List.{List, [], ◌∷◌, ◌++◌, append_assoc, append-nil}
@@ -14,9 +14,9 @@ use Rattle.tree.specs.Tree.Piece.{one, list, text, byte, mark, number}
 use Rattle.tree.specs.Tree.Items.{none, hole, item}
 use Rattle.rewritten.specs.Events.{Event, events, events_fields, events_piece, events_items}
 use Rattle.rewritten.specs.Events.Event.{begins, ends, opens, closes}
-use Rattle.ordering.specs.declared.verdict.Verdict.{Verdict}
-use Rattle.ordering.specs.Verdicts.{turn, by_text, lexical}
-use Rattle.ordering.specs.declared.verdict.Verdict.TheVariants.{Less, Equal, Greater}
+use Rattle.std.specs.declared.cmp.Ordering.{Ordering}
+use Rattle.ordering.specs.Verdicts.{turn, by_text}
+use Rattle.std.specs.declared.cmp.Ordering.TheVariants.{Less, Equal, Greater}
 use Rattle.equal.specs.Canonical.{canonical}
 use Rattle.equal.specs.Met.{met, met_fields, met_piece, met_items, in_turn, in_turn_fields, in_turn_piece, in_turn_items}
 use Rattle.equal.specs.Equal.{Equal as Same}
@@ -24,7 +24,9 @@ use Rattle.equal.specs.Renaming.{unplaced, Formed}
 use Rattle.equal.proofs.Turn.{in_turn_canonical}
 use Rattle.equal.proofs.Back.{equal_unplaced}
 use Rattle.ordering.specs.Order.{compare, order, Key, key_of, by_key_of, by_event, first_difference, placed_all}
-use Rattle.ordering.proofs.LexicalOrder.{less_not_equal, greater_not_less, greater_not_equal, Orders, lists_order, image_orders, text_orders, self, back, less_then_equal, equal_then_less, equal_then_equal}
+use Rattle.std.specs.Cmp.{IsTotalOrder}
+use Rattle.std.proofs.lemmas.Cmp.{on_total, lists_total, nat_list_cmp_total, tied_itself, tied_back}
+use Rattle.ordering.proofs.LexicalOrder.{less_not_equal, greater_not_less, greater_not_equal, less_then_equal, equal_then_less, equal_then_equal}
 use Rattle.ordering.proofs.Bridge.{compare_events}
 use Rattle.ordering.proofs.Same.{node_bytes, node_unplaced}
 
@@ -33,27 +35,30 @@ use Rattle.ordering.proofs.Same.{node_bytes, node_unplaced}
 abbrev flat : Key → List ℕ
 flat k = k.rank ∷ k.first ∷ k.second ∷ k.text
 
-key_orders : Orders by_key_of
-unfolding by_key_of by_text lexical
-key_orders = image_orders by_text text_orders flat by_key_of (λ e f. refl)
+by_image : {A B : Type 0} (f : B → A) (c : A → A → Ordering) (d : B → B → Ordering) → ((x y : B) → d x y ≡ c (f x) (f y)) → IsTotalOrder c → IsTotalOrder d
+by_image f c d h o = subst IsTotalOrder (λ i x y. sym (h x y) i) (on_total f o)
 
-pub event_orders : Orders by_event
+key_orders : IsTotalOrder by_key_of
+unfolding by_key_of
+key_orders = by_image flat by_text by_key_of (λ e f. refl) nat_list_cmp_total
+
+pub event_orders : IsTotalOrder by_event
 unfolding by_event
-event_orders = image_orders by_key_of key_orders key_of by_event (λ e f. refl)
+event_orders = by_image key_of by_key_of by_event (λ e f. refl) key_orders
 
-pub lists_of_events : Orders first_difference
+pub lists_of_events : IsTotalOrder first_difference
 unfolding first_difference
-lists_of_events = lists_order by_event event_orders
+lists_of_events = lists_total event_orders
 
-pub compare_orders : Orders compare
-compare_orders = image_orders first_difference lists_of_events events compare (λ m n. compare_events m n)
+pub compare_orders : IsTotalOrder compare
+compare_orders = by_image events first_difference compare (λ m n. compare_events m n) lists_of_events
 
-pub order_orders : Orders order
+pub order_orders : IsTotalOrder order
 unfolding order
-order_orders = image_orders compare compare_orders canonical order (λ m n. refl)
+order_orders = by_image canonical compare order (λ m n. refl) compare_orders
 
 -- exactly one of the three comes out
-pub record One (v : Verdict) : Type 0 where
+pub record One (v : Ordering) : Type 0 where
   pub some : (v ≡ Less) ⊎ ((v ≡ Equal) ⊎ (v ≡ Greater))
   pub not_less_and_equal : v ≡ Less → v ≡ Equal → ⊥
   pub not_less_and_greater : v ≡ Less → v ≡ Greater → ⊥
@@ -67,29 +72,29 @@ one_verdict a b = record {
   not_equal_and_greater = λ e f. greater_not_equal (sym f ∙ e);
 }
   where
-    go : (v : Verdict) → (v ≡ Less) ⊎ ((v ≡ Equal) ⊎ (v ≡ Greater))
+    go : (v : Ordering) → (v ≡ Less) ⊎ ((v ≡ Equal) ⊎ (v ≡ Greater))
     go Less = inl refl
     go Equal = inr (inl refl)
     go Greater = inr (inr refl)
 
 -- and the other way round the opposite
 pub turned : (a b : Node) → order b a ≡ turn (order a b)
-turned a b = order_orders.turned a b
+turned a b = order_orders.antisymm b a
 
 pub less_carries : (a b c : Node) → order a b ≡ Less → order b c ≡ Less → order a c ≡ Less
-less_carries a b c = order_orders.carries a b c
+less_carries a b c = order_orders.trans a b c
 
 pub less_equal_carries : (a b c : Node) → order a b ≡ Less → order b c ≡ Equal → order a c ≡ Less
-less_equal_carries a b c = less_then_equal order order_orders a b c
+less_equal_carries a b c = less_then_equal order_orders a b c
 
 pub equal_less_carries : (a b c : Node) → order a b ≡ Equal → order b c ≡ Less → order a c ≡ Less
-equal_less_carries a b c = equal_then_less order order_orders a b c
+equal_less_carries a b c = equal_then_less order_orders a b c
 
 pub equal_carries : (a b c : Node) → order a b ≡ Equal → order b c ≡ Equal → order a c ≡ Equal
-equal_carries a b c = equal_then_equal order order_orders a b c
+equal_carries a b c = equal_then_equal order_orders a b c
 
 pub equal_self : (a : Node) → order a a ≡ Equal
-equal_self a = self order order_orders a
+equal_self a = tied_itself order_orders a
 
 -- equal is equality of trees as spelled: of all trees one way, and both ways of those that are laid out by the grammar
 pub equal_then_same : (a b : Node) → order a b ≡ Equal → Same a b
@@ -98,9 +103,9 @@ equal_then_same a b e = node_bytes (canonical a) (canonical b) e
 
 unplaced_equal : (m n : Node) → unplaced m ≡ unplaced n → compare m n ≡ Equal
 unplaced_equal m n e =
-    compare_orders.like m (unplaced m) n (node_unplaced m)
+    compare_orders.congr m (unplaced m) n (node_unplaced m)
     ∙ ap (λ (x : Node). compare x n) e
-    ∙ back compare compare_orders n (unplaced n) (node_unplaced n)
+    ∙ tied_back compare_orders n (unplaced n) (node_unplaced n)
 
 pub equal_is : (stage : Stage) (a b : Node) → Formed stage a → Formed stage b → (order a b ≡ Equal → Same a b) × (Same a b → order a b ≡ Equal)
 unfolding order

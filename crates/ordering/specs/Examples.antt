@@ -7,9 +7,8 @@ use Rattle.tree.specs.Tree.Piece.{list, text, byte, mark, number}
 use Rattle.tree.specs.Tree.Items.{none, hole, item}
 use Rattle.lowering.specs.Collect.{except, distinct, number_in}
 use Rattle.equal.specs.Canonical.{canonical, numbers, renumbered, place_of}
-use Rattle.ordering.specs.Verdicts.{by_value, by_text, lexical}
 use Rattle.ordering.specs.Order.{order, compare}
-use Rattle.ordering.specs.declared.verdict.Verdict.TheVariants.{Less, Equal, Greater}
+use Rattle.std.specs.declared.cmp.Ordering.TheVariants.{Less, Equal, Greater}
 
 abbrev temporary : ℕ → ℕ → Node
 temporary n stem = node 0 20 (field (number n) (field (byte stem) done))
@@ -58,5 +57,5 @@ pub record Examples : Type 0 where
   pub other_way : order some empty ≡ Greater
 
 pub examples : Examples
-unfolding order compare canonical renumbered numbers place_of distinct except number_in by_value by_text lexical map_of
+unfolding order compare canonical renumbered numbers place_of distinct except number_in map_of
 examples = record { number_first = refl; then_stem = refl; seen_alike = refl; seen_before = refl; sort_first = refl; by_byte = refl; hole_first = refl; inner_list = refl; spelling = refl; empty_first = refl; other_way = refl }

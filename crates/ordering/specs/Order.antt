@@ -7,9 +7,9 @@ use Rattle.tree.specs.Tree.Piece.{one, list, text, byte, mark, number}
 use Rattle.tree.specs.Tree.Items.{none, hole, item}
 use Rattle.rewritten.specs.Events.{Event}
 use Rattle.rewritten.specs.Events.Event.{begins, ends, opens, closes}
-use Rattle.ordering.specs.declared.verdict.Verdict.{Verdict}
+use Rattle.std.specs.declared.cmp.Ordering.{Ordering}
 use Rattle.ordering.specs.Verdicts.{or_else, by_value, by_text, lexical}
-use Rattle.ordering.specs.declared.verdict.Verdict.TheVariants.{Less, Equal, Greater}
+use Rattle.std.specs.declared.cmp.Ordering.TheVariants.{Less, Equal, Greater}
 use Rattle.equal.specs.Canonical.{canonical}
 use Rattle.equal.specs.Met.{meet, place}
 
@@ -17,11 +17,11 @@ use Rattle.equal.specs.Met.{meet, place}
 
 unfoldable mutual
   -- kind, bit map, fields
-  pub compare : Node → Node → Verdict
+  pub compare : Node → Node → Ordering
   compare (node at k fs) (node at' k' gs) = or_else (by_value k k') (or_else (by_value (map_of fs) (map_of gs)) (compare_fields fs gs))
 
   -- from bit 0, where the bit maps are the same; so the same fields stand
-  pub compare_fields : Fields → Fields → Verdict
+  pub compare_fields : Fields → Fields → Ordering
   compare_fields done gs = Equal
   compare_fields (absent fs) done = Equal
   compare_fields (absent fs) (absent gs) = compare_fields fs gs
@@ -31,7 +31,7 @@ unfoldable mutual
   compare_fields (field p fs) (field q gs) = or_else (compare_piece p q) (compare_fields fs gs)
 
   -- what is not of one sort (it is, in a tree that was read) goes by the sort
-  pub compare_piece : Piece → Piece → Verdict
+  pub compare_piece : Piece → Piece → Ordering
   compare_piece (one m) (one n) = compare m n
   compare_piece (one m) (list js) = Less
   compare_piece (one m) (text cs) = Less
@@ -70,7 +70,7 @@ unfoldable mutual
   compare_piece (number u) (number v) = by_value u v
 
   -- item by item; the end before a hole, a hole (kind 0) before a node
-  pub compare_items : Items → Items → Verdict
+  pub compare_items : Items → Items → Ordering
   compare_items none none = Equal
   compare_items none (hole js) = Less
   compare_items none (item n js) = Less
@@ -83,7 +83,7 @@ unfoldable mutual
 
 -- ---- the order
 
-unfoldable pub order : Node → Node → Verdict
+unfoldable pub order : Node → Node → Ordering
 order m n = compare (canonical m) (canonical n)
 
 -- ---- the first difference of two tours
@@ -109,13 +109,13 @@ key_of (Event.mark n) = numbers 6 n 0
 key_of (Event.number n) = numbers 7 n 0
 key_of ends = numbers 8 0 0
 
-unfoldable pub by_key_of : Key → Key → Verdict
+unfoldable pub by_key_of : Key → Key → Ordering
 by_key_of k l = or_else (by_value k.rank l.rank) (or_else (by_value k.first l.first) (or_else (by_value k.second l.second) (by_text k.text l.text)))
 
-unfoldable pub by_event : Event → Event → Verdict
+unfoldable pub by_event : Event → Event → Ordering
 by_event e f = by_key_of (key_of e) (key_of f)
 
-unfoldable pub first_difference : List Event → List Event → Verdict
+unfoldable pub first_difference : List Event → List Event → Ordering
 first_difference es fs = lexical by_event es fs
 
 -- ---- events with the temporaries' places; t: the event is the first of a temporary

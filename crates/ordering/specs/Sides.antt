@@ -1,5 +1,5 @@
 -- One of two tours, with the places of its temporaries: what is to come, and what a step does.
-use Rattle.std.specs.Prelude.{ℕ, ◌+◌, ◌-◌, ◌<◌, ◌≤◌, ◌≡◌, List, [], ◌∷◌, length, take, drop}
+use Rattle.std.specs.Prelude.{ℕ, ◌+◌, ◌-◌, ◌<◌, ◌≤◌, ◌≡◌, List, [], ◌∷◌, length}
 use Rattle.tree.specs.Read.Got.{got}
 use Rattle.rewritten.specs.Events.{Event}
 use Rattle.rewritten.specs.Events.Event.{begins, ends, opens, closes}
@@ -11,8 +11,8 @@ use Rattle.ordering.specs.Order.{Key, key_of, placed_all}
 use Rattle.ordering.specs.Places.{Knows}
 use Rattle.ordering.specs.declared.key.Key as told-key
 use Rattle.ordering.specs.declared.side.Side.{Side}
-use Rattle.ordering.specs.declared.side.Move.{Move}
-use Rattle.ordering.specs.declared.side.Move.TheVariants.{Met, Ended}
+use Rattle.std.specs.declared.option.Option.{Option}
+use Rattle.std.specs.declared.option.Option.TheVariants.{Some, None}
 
 -- ---- events
 
@@ -29,24 +29,23 @@ Within tree (Mark n) = Unit {0}
 Within tree (Number n) = Unit {0}
 
 -- the key that the code works out
-abbrev pub key_in_of : List ℕ → told-key.Key → Key
-key_in_of tree k = record { rank = k.rank; first = k.first; second = k.second; text = take k.size (drop k.at tree) }
+abbrev pub key_in : told-key.Key → Key
+key_in k = record { rank = k.rank; first = k.first; second = k.second; text = k.text.now }
 
 pub record KeyIs (tree : List ℕ) (e : told.Event) (k : told-key.Key) : Type 0 where
-  pub is : key_in_of tree k ≡ key_of (event_in tree e)
-  pub within : Within tree e → k.at + k.size ≤ length tree
+  pub is : key_in k ≡ key_of (event_in tree e)
 
--- the number that an event is; more than a number may be where it is none
-abbrev pub number_in : Event → ℕ
-number_in (begins at kind map) = 65536
-number_in ends = 65536
-number_in (opens n) = 65536
-number_in closes = 65536
-number_in Event.hole = 65536
-number_in (Event.text bs) = 65536
-number_in (Event.byte b) = 65536
-number_in (Event.mark n) = 65536
-number_in (Event.number n) = n
+-- the number that an event is
+abbrev pub number_in : Event → Option ℕ
+number_in (begins at kind map) = None
+number_in ends = None
+number_in (opens n) = None
+number_in closes = None
+number_in Event.hole = None
+number_in (Event.text bs) = None
+number_in (Event.byte b) = None
+number_in (Event.mark n) = None
+number_in (Event.number n) = Some n
 
 -- ---- a side
 
@@ -73,9 +72,9 @@ pub record Went (tree frames table : List ℕ) (s : Side) (es : List Event) (e :
   pub within : Within tree e
   pub falls : (length tree - t.cursor.at) + t.cursor.deep < (length tree - s.cursor.at) + s.cursor.deep
 
-abbrev pub MovedSo : List ℕ → List ℕ → List ℕ → Side → List Event → Move → Type 0
-MovedSo tree frames table s es (Met e t) = Went tree frames table s es e t
-MovedSo tree frames table s es Ended = es ≡ []
+abbrev pub MovedSo : List ℕ → List ℕ → List ℕ → Side → List Event → Option (told.Event × Side) → Type 0
+MovedSo tree frames table s es (Some (e, t)) = Went tree frames table s es e t
+MovedSo tree frames table s es None = es ≡ []
 
-pub record Moved (tree frames table : List ℕ) (s : Side) (es : List Event) (r : Move) : Type 0 where
+pub record Moved (tree frames table : List ℕ) (s : Side) (es : List Event) (r : Option (told.Event × Side)) : Type 0 where
   pub so : MovedSo tree frames table s es r

@@ -1,48 +1,24 @@
--- Less, equal or greater: the word and the number of each; and what is decided first decides.
-use Rattle.std.specs.Prelude.{ℕ, zero, suc, ℤ, pos, negsuc, Bool, true, false, List, [], ◌∷◌}
-use Rattle.ordering.specs.declared.verdict.Verdict.{Verdict}
-use Rattle.ordering.specs.declared.verdict.Verdict.TheVariants.{Less, Equal, Greater}
+-- Less, equal or greater: the number and the word of each, and how texts are compared.
+use Rattle.std.specs.Prelude.{ℕ, ℤ, pos, negsuc, List, [], ◌∷◌}
+use Rattle.std.specs.declared.cmp.Ordering.{Ordering}
+use Rattle.std.specs.declared.cmp.Ordering.TheVariants.{Less, Equal, Greater}
+use Rattle.std.specs.Ordering.{nat_cmp}
+use Rattle.std.specs.Cmp.Lexicographic.{slice_cmp}
+-- the first, unless it is equal; the other way round; numbers by their value; item by item, a list before one that it begins
+pub use Rattle.std.specs.Ordering.{ordering_then as or_else, ordering_reverse as turn, nat_cmp as by_value, is_eq as is_equal}
+pub use Rattle.std.specs.Cmp.Lexicographic.{slice_cmp as lexical}
 
--- the first, unless it is equal
-abbrev pub or_else : Verdict → Verdict → Verdict
-or_else Less w = Less
-or_else Equal w = w
-or_else Greater w = Greater
-
-abbrev pub turn : Verdict → Verdict
-turn Less = Greater
-turn Equal = Equal
-turn Greater = Less
-
-unfoldable pub by_value : ℕ → ℕ → Verdict
-by_value zero zero = Equal
-by_value zero (suc b) = Less
-by_value (suc a) zero = Greater
-by_value (suc a) (suc b) = by_value a b
-
--- item by item; a list that begins another comes before it
-unfoldable pub lexical : {A : Type 0} → (A → A → Verdict) → List A → List A → Verdict
-lexical c [] [] = Equal
-lexical c [] (y ∷ ys) = Less
-lexical c (x ∷ xs) [] = Greater
-lexical c (x ∷ xs) (y ∷ ys) = or_else (c x y) (lexical c xs ys)
-
-unfoldable pub by_text : List ℕ → List ℕ → Verdict
-by_text bs cs = lexical by_value bs cs
-
-abbrev pub is_equal : Verdict → Bool
-is_equal Less = false
-is_equal Equal = true
-is_equal Greater = false
+abbrev pub by_text : List ℕ → List ℕ → Ordering
+by_text bs cs = slice_cmp nat_cmp bs cs
 
 -- its number, as the entry answers it: -1, 0 or 1
-abbrev pub number_of : Verdict → ℤ
+abbrev pub number_of : Ordering → ℤ
 number_of Less = negsuc 0
 number_of Equal = pos 0
 number_of Greater = pos 1
 
 -- its word in ASCII, as the program prints it
-abbrev pub word_of : Verdict → List ℕ
+abbrev pub word_of : Ordering → List ℕ
 word_of Less = 108 ∷ 101 ∷ 115 ∷ 115 ∷ []  -- less
 word_of Equal = 101 ∷ 113 ∷ 117 ∷ 97 ∷ 108 ∷ []  -- equal
 word_of Greater = 103 ∷ 114 ∷ 101 ∷ 97 ∷ 116 ∷ 101 ∷ 114 ∷ []  -- greater

@@ -16,43 +16,39 @@ pub(crate) struct Side {
 }
 
 // The next event with its place, and the side then; or nothing is left.
-#[derive(Clone, Copy)]
-pub(crate) enum Move {
-    Met(Event, Side),
-    Ended,
-}
-
-pub(crate) fn advance(tree: &[u8], frames: &mut [usize], table: &mut [u16], side: Side) -> Move
+pub(crate) fn advance(
+    tree: &[u8],
+    frames: &mut [usize],
+    table: &mut [u16],
+    side: Side,
+) -> Option<(Event, Side)>
     ensures { (length frames.new ≡ length frames.old) × (length table.new ≡ length table.old) × ((es : List events.Event) → Coming tree.now frames.old table.old side es → Moved tree.now frames.new table.new side es result) }
 {
     match next::next(tree, frames, side.cursor) {
-        Step::Next(e, c) => {
+        Step::Next(e, cursor) => {
             let temporary = key::opens_temporary(e);
-            let n = key::number_in(e);
             if side.temporary {
-                if n < 65536 {
+                if let Some(n) = key::number_in(e) {
                     let placed = place::place(table, side.met, n);
-                    return Move::Met(
+                    return Some((
                         Event::Number(placed.place),
                         Side {
-                            cursor: c,
-                            temporary: temporary,
+                            cursor,
+                            temporary,
                             met: placed.met,
                         },
-                    );
+                    ));
                 }
             }
-            Move::Met(
+            Some((
                 e,
                 Side {
-                    cursor: c,
-                    temporary: temporary,
-                    met: side.met,
+                    cursor,
+                    temporary,
+                    ..side
                 },
-            )
+            ))
         }
-        Step::Done => Move::Ended,
-        Step::Refused => Move::Ended,
-        Step::Full => Move::Ended,
+        Step::Done | Step::Refused | Step::Full => None,
     }
 }

@@ -89,11 +89,14 @@ plan_absents (suc n) row h = elim (dec_lt 0 row) [
 plan_as : (row map a b : ℕ) → b ≡ a → Planned row map a → Planned row map b
 plan_as row map a b e p = rw e p
 
-pub plan_one : (row : ℕ) → 0 < row → Planned row 1 (512 + row % 512)
-plan_one row h = plan_as row 1 (0 * 1024 + 512 + row % 512) _ (omega arith) (plan_stands row 1 (λ z. absurd (omega arith)) 0 (plan_absents row (row / 1024) (omega arith)) (λ z. absurd (omega arith)))
+plan_one_lem : (row : ℕ) → 0 < row → Planned row 1 (512 + row % 512)
+plan_one_lem row h = plan_as row 1 (0 * 1024 + 512 + row % 512) _ (omega arith) (plan_stands row 1 (λ z. absurd (omega arith)) 0 (plan_absents row (row / 1024) (omega arith)) (λ z. absurd (omega arith)))
 
-pub plan_two : (row : ℕ) → 1023 < row → Planned row 3 (512 + row % 512 + 1024 * (512 + row / 1024 % 512))
-plan_two row h = plan_as row 3 ((512 + row / 1024 % 512) * 1024 + 512 + row % 512) _ (omega arith) (plan_stands row 3 (λ z. absurd (omega arith)) (512 + row / 1024 % 512) (plan_one (row / 1024) (omega arith)) (λ z. absurd (omega arith)))
+pub plan_one : (row : ℕ) → 0 < row → (512 + row % 512 < 1024 ^ 6) × Planned row 1 (512 + row % 512)
+plan_one row h = (omega arith, plan_one_lem row h)
+
+pub plan_two : (row : ℕ) → 1023 < row → (512 + row % 512 + 1024 * (512 + row / 1024 % 512) < 1024 ^ 6) × Planned row 3 (512 + row % 512 + 1024 * (512 + row / 1024 % 512))
+plan_two row h = (omega arith, plan_as row 3 ((512 + row / 1024 % 512) * 1024 + 512 + row % 512) _ (omega arith) (plan_stands row 3 (λ z. absurd (omega arith)) (512 + row / 1024 % 512) (plan_one_lem (row / 1024) (omega arith)) (λ z. absurd (omega arith))))
 
 -- ---- the loop: so much is made, and what is left goes above it
 
@@ -118,12 +121,18 @@ planning_start row map h = record {
 }
 
 -- more than six fields are none
-pub plan_long : (row map : ℕ) → 1152921504606846975 < row → Planned row map 0
-plan_long row map h = record { less = λ n g. let p : 0 < 1024 ^ n = one-le-pow n 1024 (omega arith) in omega arith; is = λ g. absurd (omega arith) }
+pub plan_long : (row map : ℕ) → 1152921504606846975 < row → (0 < 1024 ^ 6) × Planned row map 0
+plan_long row map h = (omega arith, record { less = λ n g. let p : 0 < 1024 ^ n = one-le-pow n 1024 (omega arith) in omega arith; is = λ g. absurd (omega arith) })
 
 module _ (row map left bits made scale : ℕ) (g : Planning row map left bits made scale) where
-  pub planning_ends : left ≤ 0 → Planned row map made
-  planning_ends z = let e : made + scale * 0 ≡ made = omega arith in rw e at (g.will 0 (plan_none left bits (omega arith)))
+  pub planning_ends : left ≤ 0 → (made < 1024 ^ 6) × Planned row map made
+  planning_ends z =
+      let t : g.taken + g.places ≤ 6 = g.both in
+      let h : 1024 ^ g.taken ≤ 1024 ^ 6 = pow-le-pow_right (omega arith) {i = g.taken} {j = 6} (omega arith) in
+      let p : scale ≡ 1024 ^ g.taken = g.power in
+      let b : made < scale = g.below in
+      let e : made + scale * 0 ≡ made = omega arith in
+      (omega arith, rw e at (g.will 0 (plan_none left bits (omega arith))))
 
   module _ (some : 0 < left) where
     place_left : (places : ℕ) → left < 1024 ^ places → (m : ℕ) × (places ≡ suc m) × (left / 1024 < 1024 ^ m)
@@ -234,93 +243,6 @@ plan_firsts plan map k h e =
     let a : 2 ^ (10 * k) ≤ 2 ^ 60 = pow-le-pow_right (omega arith) {i = 10 * k} {j = 60} (omega arith) in
     let b : plan % 2 ^ (10 * k) < 2 ^ (10 * k) = mod-lt plan (pow_pos (10 * k)) in
     rw (shifted (10 * k) (omega arith)) (omega arith, λ m. first_fields k plan map m (e ∙ shifted k (omega arith)))
-
--- the loop over the other bit maps: at most six fields are taken
-pub record Taking (plan map left bits made scale : ℕ) : Type 0 where
-  pub taken : ℕ
-  pub places : ℕ
-  pub power : scale ≡ 1024 ^ taken
-  pub few : bits < 2 ^ places
-  pub both : taken + places ≤ 6
-  pub below : made < scale
-  pub will : marked (fields_in_of plan) ≡ true → (marked (fields_in_of left) ≡ true) × ((q : ℕ) → Planned left bits q → Planned plan map (made + scale * q))
-
-pub taking_start : (plan map : ℕ) → map < 64 → Taking plan map plan map 0 1
-taking_start plan map h = record {
-  taken = 0;
-  places = 6;
-  power = refl;
-  few = h;
-  both = omega arith;
-  below = omega arith;
-  will = λ m. (m, λ q p. let e : 0 + 1 * q ≡ q = omega arith in rw e p);
-}
-
-module _ (plan map left bits made scale : ℕ) (g : Taking plan map left bits made scale) where
-  pub taking_ends : left ≤ 0 → (made < 1024 ^ 6) × (marked (fields_in_of plan) ≡ true → Planned plan map made)
-  taking_ends z =
-      let t : g.taken + g.places ≤ 6 = g.both in
-      let h : 1024 ^ g.taken ≤ 1024 ^ 6 = pow-le-pow_right (omega arith) {i = g.taken} {j = 6} (omega arith) in
-      let p : scale ≡ 1024 ^ g.taken = g.power in
-      let b : made < scale = g.below in
-      let e : made + scale * 0 ≡ made = omega arith in
-      (omega arith, λ m. rw e at ((g.will m).1 0 (plan_none left bits (omega arith))))
-
-  module _ (some : 0 < left) where
-    pub taking_absent : (bits % 2 ≡ 1 → ⊥) → Taking plan map (left / 1024) (bits / 2) made scale
-    taking_absent b = record {
-      taken = g.taken;
-      places = g.places;
-      power = g.power;
-      few = omega (arith, g.few);
-      both = g.both;
-      below = g.below;
-      will = λ m. ((marked_first left some (g.will m).0).1, λ q p. (g.will m).1 q (plan_absent left bits (λ z. absurd (omega arith)) q p (omega arith)));
-    }
-
-    module _ (b : bits % 2 ≡ 1) where
-      place_taken : (places : ℕ) → bits < 2 ^ places → (m : ℕ) × (places ≡ suc m) × (bits / 2 < 2 ^ m)
-      place_taken zero h = absurd (omega arith)
-      place_taken (suc m) h = let e : 2 ^ suc m ≡ 2 ^ m * 2 = pow-suc 2 m in (m, refl, omega arith)
-
-      one_less : (m : ℕ) × (g.places ≡ suc m) × (bits / 2 < 2 ^ m)
-      one_less = place_taken g.places g.few
-
-      pub taking_scale : scale ≤ 1125899906842624
-      taking_scale =
-          let a : g.places ≡ suc one_less.0 = one_less.1 in
-          let t : g.taken + g.places ≤ 6 = g.both in
-          let h : 1024 ^ g.taken ≤ 1024 ^ 5 = pow-le-pow_right (omega arith) {i = g.taken} {j = 5} (omega arith) in
-          let e : scale ≡ 1024 ^ g.taken = g.power in
-          omega arith
-
-      pub taking_digit : scale * (left % 1024) ≤ scale * 1023
-      taking_digit = mul-le-mul_left scale (omega arith)
-
-      pub taking_stands : Taking plan map (left / 1024) (bits / 2) (made + scale * (left % 1024)) (scale * 1024)
-      taking_stands =
-          let a : g.places ≡ suc one_less.0 = one_less.1 in
-          let t : g.taken + g.places ≤ 6 = g.both in
-          let c : made < scale = g.below in
-          let d : scale * (left % 1024) ≤ scale * 1023 = taking_digit in
-          record {
-            taken = suc g.taken;
-            places = one_less.0;
-            power = ap (λ (x : ℕ). x * 1024) g.power ∙ sym (pow-suc 1024 g.taken);
-            few = one_less.2;
-            both = omega arith;
-            below = omega arith;
-            will = λ m.
-                let f = marked_first left some (g.will m).0 in
-                (f.1, λ q p. rw (above q f.0) ((g.will m).1 (q * 1024 + 512 + left % 512) (plan_stands left bits (λ z. absurd (omega arith)) q p (λ z. absurd (omega arith)))));
-          }
-        where
-          above : (q : ℕ) → left % 1024 ≡ 512 + left % 512 → made + scale * (left % 1024) + scale * 1024 * q ≡ made + scale * (q * 1024 + 512 + left % 512)
-          above q f =
-              let u : q * 1024 + 512 + left % 512 ≡ q * 1024 + left % 1024 = omega arith in
-              let v : scale * (q * 1024 + 512 + left % 512) ≡ scale * (q * 1024) + scale * (left % 1024) = ap (λ (x : ℕ). scale * x) u ∙ mul-add scale (q * 1024) (left % 1024) in
-              let w : scale * 1024 * q ≡ scale * (q * 1024) = mul_assoc scale 1024 q ∙ ap (λ (x : ℕ). scale * x) (mul_comm 1024 q) in
-              omega (arith, v, w)
 
 -- ---- fields of the same sorts
 

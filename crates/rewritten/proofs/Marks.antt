@@ -254,3 +254,30 @@ cleared_one l i z h c x le = by_same x (i - 1) (λ e. rw e (get_or-set_same l (i
   where
     far : (y : ℕ) → (y ≡ i - 1 → ⊥) → i - 1 ≤ y → i ≤ y
     far y d g = omega arith
+
+-- ---- an event that is no mark
+
+module _ (seen tree : List ℕ) where
+  pub new_other : (e : told.Event) → ((n : ℕ) → e ≡ Mark n → ⊥) → true ≡ new_in seen (event_in tree e)
+  unfolding new_in
+  new_other (Begins p kind map) d = refl
+  new_other Ends d = refl
+  new_other (Opens n) d = refl
+  new_other Closes d = refl
+  new_other Hole d = refl
+  new_other (Text p n) d = refl
+  new_other (Byte b) d = refl
+  new_other (Mark n) d = absurd (d n refl)
+  new_other (Number n) d = refl
+
+  pub noted_other : (e : told.Event) → ((n : ℕ) → e ≡ Mark n → ⊥) → seen ≡ noted seen (event_in tree e)
+  unfolding noted
+  noted_other (Begins p kind map) d = refl
+  noted_other Ends d = refl
+  noted_other (Opens n) d = refl
+  noted_other Closes d = refl
+  noted_other Hole d = refl
+  noted_other (Text p n) d = refl
+  noted_other (Byte b) d = refl
+  noted_other (Mark n) d = absurd (d n refl)
+  noted_other (Number n) d = refl

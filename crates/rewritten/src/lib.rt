@@ -2,6 +2,7 @@
 // is built on the tour stands at the head of specs/Lib.antt.
 #![tactic(auto)]
 
+pub mod class;
 pub mod look;
 pub mod next;
 pub mod plan;

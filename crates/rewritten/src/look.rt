@@ -1,13 +1,29 @@
-// What stands next in the innermost task, as one number: no function hands it over in memory. Its last four binary digits
-// are a code: 0 nothing that may stand there, 1 a node, 2 a list, 3 a text, 4 a mark, 5 a byte, 6 a number, 7 a hole. Above
-// them is the frame of a node or a list without its last digit, a text's length, or the byte, mark or number.
+// What stands next in the innermost task, as one number and no enum: a step that went through memory took four times as long
+// (docs/DECISIONS-PROOFS.md, "What stands next is a number"). Its last four binary digits are a code, 0 where nothing that
+// may stand there does. Above them is the frame of a node or a list without its last digit, a text's length, or the byte,
+// mark or number.
 ghost use Rattle.std.specs.Prelude.{◌≡◌, false, ℕ, ◌*◌, ◌/◌, ◌%◌, ◌+◌, ◌-◌, ◌≤◌};
 ghost use Rattle.tree.specs.Grammar.{Sort};
 ghost use Rattle.rewritten.specs.Steps.{coming_at, coming_fields, coming_items, coming_node, coming_piece, list_sort};
 ghost use Rattle.rewritten.specs.Look.{Ahead, Coded, is_closed, rest_of, end_for};
 
-use crate::plan;
-use tree::{bytes, grammar};
+use crate::{class, plan};
+use tree::{bytes, grammar, read};
+
+// The codes of what was found.
+pub const NODE: usize = 1;
+
+pub const LIST: usize = 2;
+
+pub const TEXT: usize = 3;
+
+pub const MARK: usize = 4;
+
+pub const BYTE: usize = 5;
+
+pub const NUMBER: usize = 6;
+
+pub const HOLE: usize = 7;
 
 // A node that may stand at the place.
 fn node(tree: &[u8], place: usize, at: usize) -> usize
@@ -21,9 +37,10 @@ fn node(tree: &[u8], place: usize, at: usize) -> usize
     let map = bytes::peek(tree, at + 1);
     let row = grammar::row(form);
     if grammar::fits(form, map) {
-        return 1 + 16 * plan::plan(row, map);
+        NODE + 16 * plan::plan(row, map)
+    } else {
+        0
     }
-    0
 }
 
 // A list whose items may stand at the place.
@@ -34,8 +51,7 @@ pub fn list(tree: &[u8], place: usize, holes: bool, at: usize) -> usize
     if 65535 < n {
         return 0;
     }
-    let low = if holes { 1 } else { 0 };
-    2 + 16 * (64 * n + place % 32 * 2 + low)
+    LIST + 16 * (64 * n + place % 32 * 2 + usize::from(holes))
 }
 
 pub fn text(tree: &[u8], at: usize) -> usize
@@ -46,7 +62,7 @@ pub fn text(tree: &[u8], at: usize) -> usize
         return 0;
     }
     if n <= tree.len() - (at + 2) {
-        3 + 16 * n
+        TEXT + 16 * n
     } else {
         0
     }
@@ -56,28 +72,25 @@ pub fn mark(tree: &[u8], at: usize) -> usize
     ensures { ((rest : ℕ) → Ahead tree.now at rest (λ frames deep. coming_piece tree.now frames Sort.mark at deep rest) result) × Coded 4 result }
 {
     let n = bytes::wide_at(tree, at);
-    if n < 65536 { 4 + 16 * n } else { 0 }
+    if n < 65536 { MARK + 16 * n } else { 0 }
 }
 
 pub fn byte(tree: &[u8], low: usize, high: usize, at: usize) -> usize
     ensures { ((rest : ℕ) → Ahead tree.now at rest (λ frames deep. coming_piece tree.now frames (Sort.byte low high) at deep rest) result) × Coded 5 result }
 {
     let b = bytes::peek(tree, at);
-    if b < 256 {
-        if low <= b {
-            if b <= high {
-                return 5 + 16 * b;
-            }
-        }
+    if b < 256 && low <= b && b <= high {
+        BYTE + 16 * b
+    } else {
+        0
     }
-    0
 }
 
 pub fn number(tree: &[u8], at: usize) -> usize
     ensures { ((rest : ℕ) → Ahead tree.now at rest (λ frames deep. coming_piece tree.now frames Sort.number at deep rest) result) × Coded 6 result }
 {
     let n = bytes::wide_at(tree, at);
-    if n < 65536 { 6 + 16 * n } else { 0 }
+    if n < 65536 { NUMBER + 16 * n } else { 0 }
 }
 
 // The next field of a node.
@@ -85,18 +98,17 @@ fn field(tree: &[u8], at: usize, row: usize) -> usize
     ensures { (row ≡ 0 → ⊥) → Ahead tree.now at (row / 1024 * 2) (λ frames deep. coming_fields tree.now frames at deep row) result }
 {
     let code = row % 512;
-    let class = code / 32;
     let a = code % 32;
-    match class {
-        1 => node(tree, a, at),
-        2 => node(tree, plan::choose(tree, a, a + 1, at), at),
-        3 => list(tree, a, false, at),
-        4 => list(tree, a, true, at),
-        5 => text(tree, at),
-        6 => mark(tree, at),
-        7 => byte(tree, 0, a, at),
-        8 => byte(tree, 1, a, at),
-        9 => byte(tree, 2, a, at),
+    match code / 32 {
+        class::NODE => node(tree, a, at),
+        class::CHOSEN => node(tree, read::choose(tree, a, a + 1, at), at),
+        class::LIST => list(tree, a, false, at),
+        class::GAPS => list(tree, a, true, at),
+        class::TEXT => text(tree, at),
+        class::MARK => mark(tree, at),
+        class::BYTE => byte(tree, 0, a, at),
+        class::BYTE_FROM_1 => byte(tree, 1, a, at),
+        class::BYTE_FROM_2 => byte(tree, 2, a, at),
         _ => number(tree, at),
     }
 }
@@ -105,12 +117,11 @@ fn field(tree: &[u8], at: usize, row: usize) -> usize
 fn item(tree: &[u8], at: usize, w: usize) -> usize
     ensures { 64 ≤ w → Ahead tree.now at ((w - 64) * 2 + 1) (λ frames deep. coming_items tree.now frames at deep w) result }
 {
-    if w % 2 == 1 {
-        if bytes::peek(tree, at) == 0 {
-            return 7;
-        }
+    if w % 2 == 1 && bytes::peek(tree, at) == 0 {
+        HOLE
+    } else {
+        node(tree, w / 2 % 32, at)
     }
-    node(tree, w / 2 % 32, at)
 }
 
 // What stands next in a task that is not done.
@@ -118,22 +129,17 @@ pub fn look(tree: &[u8], at: usize, top: usize) -> usize
     ensures { is_closed top ≡ false → Ahead tree.now at (rest_of top) (λ frames deep. coming_at tree.now frames at deep top) result }
 {
     if top % 2 == 0 {
-        return field(tree, at, top / 2);
+        field(tree, at, top / 2)
+    } else {
+        item(tree, at, top / 2)
     }
-    item(tree, at, top / 2)
 }
 
 // Nothing is left of a task.
 pub fn is_closed(top: usize) -> bool
     ensures { result ≡ is_closed top }
 {
-    if 127 < top {
-        return false;
-    }
-    if top % 2 == 0 {
-        return top == 0;
-    }
-    true
+    top < 128 && (top % 2 == 1 || top == 0)
 }
 
 // What is left of a task after its next field or item.
@@ -142,23 +148,19 @@ pub fn rest_of(top: usize) -> usize
 {
     let w = top / 2;
     if top % 2 == 0 {
-        return w / 1024 * 2;
+        w / 1024 * 2
+    } else {
+        w.saturating_sub(64) * 2 + 1
     }
-    if w < 64 { 1 } else { (w - 64) * 2 + 1 }
 }
 
 // How many bytes there are of what was found, those of a node or a list before its fields or items.
 pub(crate) fn size_of(what: usize) -> usize
     ensures { (at : ℕ) → at + result ≡ end_for at (what % 16) (what / 16) }
 {
-    let code = what % 16;
-    match code {
-        1 => 2,
-        2 => 2,
-        3 => 2 + what / 16,
-        4 => 2,
-        5 => 1,
-        6 => 2,
+    match what % 16 {
+        NODE | LIST | MARK | NUMBER => 2,
+        TEXT => 2 + what / 16,
         _ => 1,
     }
 }

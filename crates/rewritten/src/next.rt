@@ -3,8 +3,8 @@ ghost use Rattle.std.specs.Prelude.{◌≡◌, ◌+◌, ◌/◌, ◌%◌, ◌≤
 ghost use Rattle.rewritten.specs.Steps.{StepIs, step_closed, coming_at, start, Took};
 ghost use Rattle.rewritten.specs.Look.{deeper, end_for, frames_for, cursor_for};
 
-use crate::look;
 use crate::step::{Cursor, Event, Step};
+use crate::{look, tables};
 use tree::{bytes, skip};
 
 // Where a tour starts.
@@ -22,7 +22,7 @@ pub fn begin() -> Cursor
 pub fn frame_at(frames: &[usize], i: usize) -> usize
     ensures { result ≡ get_or frames.now i 0 }
 {
-    if i < frames.len() { frames[i] } else { 0 }
+    tables::number_at(frames, i)
 }
 
 // The innermost task is done, a node or a list.
@@ -34,15 +34,12 @@ fn close(frames: &[usize], at: usize, deep: usize, node: bool) -> Step
     }
     let top = frame_at(frames, deep - 1);
     let c = Cursor {
-        at: at,
+        at,
         deep: deep - 1,
-        top: top,
+        top,
     };
-    if node {
-        Step::Next(Event::Ends, c)
-    } else {
-        Step::Next(Event::Closes, c)
-    }
+    let event = if node { Event::Ends } else { Event::Closes };
+    Step::Next(event, c)
 }
 
 // A node or a list begins: `rest` goes into the next frame, and `top` is its own.
@@ -54,14 +51,10 @@ pub fn begun(frames: &mut [usize], end: usize, deep: usize, rest: usize, top: us
         return Cursor {
             at: end,
             deep: deep + 1,
-            top: top,
+            top,
         };
     }
-    Cursor {
-        at: end,
-        deep: deep,
-        top: top,
-    }
+    Cursor { at: end, deep, top }
 }
 
 // Where the tour stands after what `look` found.
@@ -76,18 +69,15 @@ pub fn moved(
     ensures { (length frames.new ≡ length frames.old) × (frames.new ≡ frames_for frames.old deep rest (what % 16)) × (end_for at (what % 16) (what / 16) ≤ length tree.now → result ≡ cursor_for frames.old at deep rest (what % 16) (what / 16)) }
 {
     let end = skip::step(tree, at, look::size_of(what));
-    let code = what % 16;
     let n = what / 16;
-    if code == 1 {
-        return begun(frames, end, deep, rest, n * 2);
-    }
-    if code == 2 {
-        return begun(frames, end, deep, rest, n * 2 + 1);
-    }
-    Cursor {
-        at: end,
-        deep: deep,
-        top: rest,
+    match what % 16 {
+        look::NODE => begun(frames, end, deep, rest, n * 2),
+        look::LIST => begun(frames, end, deep, rest, n * 2 + 1),
+        _ => Cursor {
+            at: end,
+            deep,
+            top: rest,
+        },
     }
 }
 
@@ -95,39 +85,34 @@ pub fn moved(
 pub fn next(tree: &[u8], frames: &mut [usize], cursor: Cursor) -> Step
     ensures { (length frames.new ≡ length frames.old) × Took tree.now frames.old frames.new (coming_at tree.now frames.old cursor.at cursor.deep cursor.top) cursor.at cursor.deep result }
 {
-    let at = cursor.at;
-    let deep = cursor.deep;
-    let top = cursor.top;
+    let Cursor { at, deep, top } = cursor;
     if look::is_closed(top) {
         return close(frames, at, deep, top % 2 == 0);
     }
     let what = look::look(tree, at, top);
     let c = moved(tree, frames, at, deep, look::rest_of(top), what);
     let n = what / 16;
-    let code = what % 16;
-    match code {
-        1 => {
+    match what % 16 {
+        look::NODE => {
             if deep < frames.len() {
-                Step::Next(
-                    Event::Begins(at, bytes::peek(tree, at), bytes::peek(tree, at + 1)),
-                    c,
-                )
+                let kind = bytes::peek(tree, at);
+                Step::Next(Event::Begins(at, kind, bytes::peek(tree, at + 1)), c)
             } else {
                 Step::Full
             }
         }
-        2 => {
+        look::LIST => {
             if deep < frames.len() {
                 Step::Next(Event::Opens(n / 64), c)
             } else {
                 Step::Full
             }
         }
-        3 => Step::Next(Event::Text(at + 2, n), c),
-        4 => Step::Next(Event::Mark(n), c),
-        5 => Step::Next(Event::Byte(n), c),
-        6 => Step::Next(Event::Number(n), c),
-        7 => Step::Next(Event::Hole, c),
+        look::TEXT => Step::Next(Event::Text(at + 2, n), c),
+        look::MARK => Step::Next(Event::Mark(n), c),
+        look::BYTE => Step::Next(Event::Byte(n), c),
+        look::NUMBER => Step::Next(Event::Number(n), c),
+        look::HOLE => Step::Next(Event::Hole, c),
         _ => Step::Refused,
     }
 }

@@ -1,30 +1,26 @@
 // The fields of a node that are still to come, as one number; and the forms of the rewritten stage.
-ghost use Rattle.std.specs.Prelude.{◌≡◌};
+ghost use Rattle.std.specs.Prelude.{◌≡◌, ◌<◌, ◌^◌};
 ghost use Rattle.tree.specs.Grammar.{form_at};
 ghost use Rattle.tree.specs.Grammar.Stage.{rewritten};
-ghost use Rattle.tree.specs.Read.{chosen_place};
 ghost use Rattle.rewritten.specs.Steps.{Planned};
 
-use tree::{bytes, grammar};
+use tree::{grammar, kinds};
 
 // The fields of a row whose bits stand, ten binary digits a field, the tenth always set. Of most nodes the first or the
 // first two stand.
 pub(crate) fn plan(row: usize, map: usize) -> usize
-    ensures { Planned row map result }
+    ensures { (result < 1024 ^ 6) × Planned row map result }
 {
     if 1152921504606846975 < row {
         return 0;
     }
-    if map == 1 {
-        if 0 < row {
-            return 512 + row % 512;
-        }
+    if map == 1 && 0 < row {
+        return 512 + row % 512;
     }
-    if map == 3 {
-        if 1023 < row {
-            return 512 + row % 512 + 1024 * (512 + row / 1024 % 512);
-        }
+    if map == 3 && 1023 < row {
+        return 512 + row % 512 + 1024 * (512 + row / 1024 % 512);
     }
+    // No counted loop: it ends where no field is left.
     let mut left = row;
     let mut bits = map;
     let mut made = 0;
@@ -44,31 +40,23 @@ pub(crate) fn plan(row: usize, map: usize) -> usize
 pub(crate) fn form_at(place: usize, kind: usize) -> usize
     ensures { result ≡ form_at rewritten place kind }
 {
-    if kind == 20 {
-        if grammar::form_at(place, 18) == 0 {
-            if grammar::form_at(place, 19) == 0 {
-                return 0;
+    match kind {
+        kinds::TEMPORARY => {
+            if grammar::form_at(place, kinds::REFERENCE) == 0
+                && grammar::form_at(place, kinds::BINDING) == 0
+            {
+                0
+            } else {
+                kinds::TEMPORARY
             }
         }
-        return 20;
-    }
-    if kind == 21 {
-        if grammar::form_at(place, 24) == 0 {
-            return 0;
+        kinds::HELPER => {
+            if grammar::form_at(place, kinds::OBJECT) == 0 {
+                0
+            } else {
+                kinds::HELPER
+            }
         }
-        return 21;
-    }
-    grammar::form_at(place, kind)
-}
-
-// The place of a node that goes by the byte before it: the first if that is 1, else the second.
-pub(crate) fn choose(tree: &[u8], first: usize, second: usize, at: usize) -> usize
-    ensures { result ≡ chosen_place tree.now first second at }
-{
-    let before = if 0 < at { at - 1 } else { 0 };
-    if bytes::peek(tree, before) == 1 {
-        first
-    } else {
-        second
+        _ => grammar::form_at(place, kind),
     }
 }

@@ -9,41 +9,29 @@ use crate::{look, next, seen};
 fn read(tree: &[u8], frames: &mut [usize], seen: &mut [u8]) -> bool
     ensures { 16384 ≤ length frames.old → 65536 ≤ length seen.old → result ≡ is_rewritten tree.now }
 {
-    if 32768 < tree.len() {
-        return false;
-    }
-    if frames.len() < 16384 {
-        return false;
-    }
-    if seen.len() < 65536 {
+    if tree.len() > 32768 || frames.len() < 16384 || seen.len() < 65536 {
         return false;
     }
     seen::clear(seen);
     let mut cursor = next::begin();
     loop {
-        let at = cursor.at;
-        let deep = cursor.deep;
-        let top = cursor.top;
+        let Cursor { at, deep, top } = cursor;
         if look::is_closed(top) {
             if deep == 0 {
                 return at == tree.len();
             }
             cursor = Cursor {
-                at: at,
+                at,
                 deep: deep - 1,
                 top: next::frame_at(frames, deep - 1),
             };
         } else {
             let what = look::look(tree, at, top);
-            if what % 16 == 0 {
+            if what % 16 == 0 || !seen::is_new_ahead(seen, what) {
                 return false;
             }
-            if seen::is_new_ahead(seen, what) {
-                seen::note_ahead(seen, what);
-                cursor = next::moved(tree, frames, at, deep, look::rest_of(top), what);
-            } else {
-                return false;
-            }
+            seen::note_ahead(seen, what);
+            cursor = next::moved(tree, frames, at, deep, look::rest_of(top), what);
         }
     }
 }

@@ -7,29 +7,29 @@ ghost use Rattle.rewritten.specs.Numbers.{place_numbers, plan_numbers, map_numbe
 ghost use Rattle.rewritten.specs.Steps.{coming_node, Planned};
 ghost use Rattle.rewritten.specs.Look.{Ahead, Coded, place_next};
 
-use crate::{plan, tables};
-use tree::bytes;
+use crate::{class, look, plan, tables};
+use tree::{bytes, kinds, read};
 
-// The place of the node that comes next, or 33: something else does.
+// The place where something else than a node comes next.
+pub const NO_NODE: usize = 33;
+
+// The place of the node that comes next, or `NO_NODE`, a place without a row.
 pub fn place_next(tree: &[u8], at: usize, top: usize) -> usize
     ensures { result ≡ place_next tree.now at top }
 {
     if top % 2 == 1 {
-        if top / 2 % 2 == 1 {
-            if bytes::peek(tree, at) == 0 {
-                return 33;
-            }
+        if top / 2 % 2 == 1 && bytes::peek(tree, at) == 0 {
+            NO_NODE
+        } else {
+            top / 4 % 32
         }
-        return top / 4 % 32;
+    } else {
+        match top / 64 % 16 {
+            class::NODE => top / 2 % 32,
+            class::CHOSEN => read::choose(tree, top / 2 % 32, top / 2 % 32 + 1, at),
+            _ => NO_NODE,
+        }
     }
-    let class = top / 64 % 16;
-    if class == 1 {
-        return top / 2 % 32;
-    }
-    if class == 2 {
-        return plan::choose(tree, top / 2 % 32, top / 2 % 32 + 1, at);
-    }
-    33
 }
 
 // The form of a kind at a place, 0 where the kind may not stand there.
@@ -40,23 +40,17 @@ fn form_at(places: &[usize], place: usize, kind: usize) -> usize
     if (tables::number_at(places, place) >> kind) % 2 == 0 {
         return 0;
     }
-    if kind == 14 {
-        if place == 1 {
-            return 64;
+    if kind == kinds::FUNCTION {
+        match place {
+            1 => 64,
+            2 => kinds::FUNCTION,
+            _ => 65,
         }
-        if place == 2 {
-            return 14;
-        }
-        return 65;
+    } else if 18 < place && 33 < kind && kind < 38 {
+        kind + 32
+    } else {
+        kind
     }
-    if 18 < place {
-        if 33 < kind {
-            if kind < 38 {
-                return kind + 32;
-            }
-        }
-    }
-    kind
 }
 
 // The fields of a plan whose bits stand, ten binary digits a field. In most nodes those are the first few.
@@ -66,24 +60,13 @@ fn planned(plan: usize, map: usize) -> usize
 {
     let count = usize::trailing_zeros(map + 1);
     if map + 1 == 1usize << count {
-        return plan % (1usize << (10 * count));
+        plan % (1usize << (10 * count))
+    } else {
+        plan::plan(plan, map)
     }
-    let mut left = plan;
-    let mut bits = map;
-    let mut made = 0;
-    let mut scale = 1;
-    while 0 < left {
-        if bits % 2 == 1 {
-            made += scale * (left % 1024);
-            scale *= 1024;
-        }
-        left /= 1024;
-        bits /= 2;
-    }
-    made
 }
 
-// What is found of a node of one text, and of one of a byte and two texts: their plans are known.
+// What is found of a node of one text, and of one of a byte and two texts, as `look` has it: their plans are known.
 pub const ONE_TEXT: usize = 10753;
 
 pub const BYTE_AND_TEXTS: usize = 11285311585;
@@ -108,27 +91,16 @@ pub fn node(
         return 0;
     }
     let map = bytes::peek(tree, at + 1);
-    if map == 1 {
-        if form == 18 {
-            return ONE_TEXT;
-        }
-        if form == 19 {
-            return ONE_TEXT;
-        }
-        if form == 38 {
-            return ONE_TEXT;
-        }
+    if map == 1
+        && (form == kinds::REFERENCE || form == kinds::BINDING || form == kinds::STATIC_KEY)
+    {
+        return ONE_TEXT;
     }
-    if map == 7 {
-        if form == 22 {
-            return BYTE_AND_TEXTS;
-        }
+    if map == 7 && form == kinds::LITERAL {
+        return BYTE_AND_TEXTS;
     }
-    if 63 < map {
+    if 63 < map || (tables::number_at(maps, form) >> map) % 2 == 0 {
         return 0;
     }
-    if (tables::number_at(maps, form) >> map) % 2 == 0 {
-        return 0;
-    }
-    1 + 16 * planned(tables::number_at(plans, form), map)
+    look::NODE + 16 * planned(tables::number_at(plans, form), map)
 }

@@ -1,11 +1,11 @@
-use Rattle.ordering.proofs.Pairs as law
+use mathlib.Core.Path.{refl, sym}
+use Rattle.ordering.specs.Outcome.{is_refused}
 use Rattle.ordering.proofs.compare.is_refused.Goals as goal
 
-pub returns-then-is_rewritten-2 : goal.returns-then-is_rewritten-2
-returns-then-is_rewritten-2 c = law.none_refused _ _ _ c.is_rewritten.ensures _ c.is_rewritten-then-is_rewritten.ensures c.if-is_rewritten.true c.if-is_rewritten-2.true
+pub returns-then-not-is_rewritten : goal.returns-then-not-is_rewritten
+unfolding is_refused
+returns-then-not-is_rewritten c = rw (sym c.is_rewritten.ensures, c.if-not-is_rewritten.true) refl
 
-pub returns-else-is_rewritten-2 : goal.returns-else-is_rewritten-2
-returns-else-is_rewritten-2 c = law.second_refused _ _ _ c.is_rewritten.ensures _ c.is_rewritten-then-is_rewritten.ensures c.if-is_rewritten.true c.if-is_rewritten-2.false
-
-pub returns-else-is_rewritten : goal.returns-else-is_rewritten
-returns-else-is_rewritten c = law.first_refused_lem _ _ _ c.is_rewritten.ensures c.if-is_rewritten.false
+pub returns-else-not-is_rewritten : goal.returns-else-not-is_rewritten
+unfolding is_refused
+returns-else-not-is_rewritten c = rw (sym c.is_rewritten.ensures, c.if-not-is_rewritten.false, sym c.is_rewritten-else-not-is_rewritten.ensures) refl

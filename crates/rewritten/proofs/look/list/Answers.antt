@@ -1,21 +1,23 @@
 use Rattle.rewritten.proofs.Ahead as law
 use native.Mathlib.Omega.{arith}
-use mathlib.Core.Bool.{Bool, cond}
-use mathlib.Core.Path.{sym, ap, ◌∙◌}
+use mathlib.Core.Bool.{Bool, true, false, cond}
+use mathlib.Core.Path.{◌≡◌, refl, ◌∙◌}
+use Prim.Native.Nat.{◌<◌}
+use mir.Val.{bool_byte}
 use Rattle.rewritten.proofs.look.list.Goals as goal
-use Rattle.rewritten.proofs.look.list.Goals.{else-holes, then-holes}
+
+bit : (b : Bool) → bool_byte b ≡ cond b 1 0
+bit true = refl
+bit false = refl
+
+bit_small : (b : Bool) → bool_byte b < 2
+bit_small true = omega arith
+bit_small false = omega arith
 
 pub returns-then-n-gt65535 : goal.returns-then-n-gt65535
 returns-then-n-gt65535 c = (law.list_missing _ _ c.args.place c.args.holes _ c.wide_at-n.ensures c.if-n-gt65535.true, law.coded_none 2)
 
-pub overflow_add-result-2 : goal.overflow_add-result-2
-overflow_add-result-2 c = (elim c.if-holes.branch [ then-holes w ↦ omega arith | else-holes w ↦ omega arith ])
-
-pub overflow_mul-result-3 : goal.overflow_mul-result-3
-overflow_mul-result-3 c = (elim c.if-holes.branch [ then-holes w ↦ omega arith | else-holes w ↦ omega arith ])
-
-pub overflow_add-result-3 : goal.overflow_add-result-3
-overflow_add-result-3 c = (elim c.if-holes.branch [ then-holes w ↦ omega arith | else-holes w ↦ omega arith ])
-
 pub returns : goal.returns
-returns c = (law.list_begins _ _ c.args.place c.args.holes _ c.wide_at-n.ensures c.if-n-gt65535.false c.if-holes.low (elim c.if-holes.branch [ then-holes w ↦ w.low-is ∙ ap (λ (b : Bool). cond b 1 0) (sym w.if-holes.true) | else-holes w ↦ w.low-is ∙ ap (λ (b : Bool). cond b 1 0) (sym w.if-holes.false) ]) (elim c.if-holes.branch [ then-holes w ↦ omega arith | else-holes w ↦ omega arith ]), law.coded 2 _ (omega arith))
+returns c =
+    let s : c.from.result < 2 = omega (arith, c.from.ensures, bit_small c.args.holes) in
+    (law.list_begins _ _ c.args.place c.args.holes _ c.wide_at-n.ensures c.if-n-gt65535.false c.from.result (c.from.ensures ∙ bit c.args.holes) s, law.coded 2 _ (omega arith))

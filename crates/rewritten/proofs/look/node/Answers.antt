@@ -14,13 +14,13 @@ pub overflow_add-at : goal.overflow_add-at
 overflow_add-at c = let h : c.args.at < length c.args.tree.now = moves.enter_there _ _ _ _ _ c.peek-kind.ensures c.form_at-form.ensures c.if-form-eq0.false in omega arith
 
 pub overflow_mul-result : goal.overflow_mul-result
-overflow_mul-result c = let h : c.plan.result < 1024 ^ 6 = moves.plan_small c.args.tree.now c.args.tree.now _ _ 0 0 _ _ c.peek-kind.ensures c.form_at-form.ensures c.if-form-eq0.false _ _ c.peek-map.ensures (ap sorts c.row-row.ensures) _ c.plan.ensures in omega arith
+overflow_mul-result c = let h : c.plan.result < 1024 ^ 6 = moves.plan_small c.args.tree.now c.args.tree.now _ _ 0 0 _ _ c.peek-kind.ensures c.form_at-form.ensures c.if-form-eq0.false _ _ c.peek-map.ensures (ap sorts c.row-row.ensures) _ c.plan.ensures.1 in omega arith
 
 pub overflow_add-result : goal.overflow_add-result
-overflow_add-result c = let h : c.plan.result < 1024 ^ 6 = moves.plan_small c.args.tree.now c.args.tree.now _ _ 0 0 _ _ c.peek-kind.ensures c.form_at-form.ensures c.if-form-eq0.false _ _ c.peek-map.ensures (ap sorts c.row-row.ensures) _ c.plan.ensures in omega arith
+overflow_add-result c = let h : c.plan.result < 1024 ^ 6 = moves.plan_small c.args.tree.now c.args.tree.now _ _ 0 0 _ _ c.peek-kind.ensures c.form_at-form.ensures c.if-form-eq0.false _ _ c.peek-map.ensures (ap sorts c.row-row.ensures) _ c.plan.ensures.1 in omega arith
 
 pub returns-then-fits : goal.returns-then-fits
-returns-then-fits c = law.node_fits _ _ _ _ _ c.peek-kind.ensures c.form_at-form.ensures c.if-form-eq0.false _ _ c.peek-map.ensures (ap sorts c.row-row.ensures) (moves.found_true c.fits.ensures c.if-fits.true) _ c.plan.ensures
+returns-then-fits c = law.node_fits _ _ _ _ _ c.peek-kind.ensures c.form_at-form.ensures c.if-form-eq0.false _ _ c.peek-map.ensures (ap sorts c.row-row.ensures) (moves.found_true c.fits.ensures c.if-fits.true) _ c.plan.ensures.1
 
-pub returns : goal.returns
-returns c = law.node_unfit _ _ _ _ _ c.peek-kind.ensures c.form_at-form.ensures c.if-form-eq0.false _ _ c.peek-map.ensures (ap sorts c.row-row.ensures) (moves.found_true c.fits.ensures c.if-fits.false)
+pub returns-else-fits : goal.returns-else-fits
+returns-else-fits c = law.node_unfit _ _ _ _ _ c.peek-kind.ensures c.form_at-form.ensures c.if-form-eq0.false _ _ c.peek-map.ensures (ap sorts c.row-row.ensures) (moves.found_true c.fits.ensures c.if-fits.false)

@@ -15,7 +15,7 @@ pub overflow_add-result : goal.overflow_add-result
 overflow_add-result c = omega (arith, law.within _ c.args.frames.now _ c.args.cursor.deep _ (moves.found_true c.is_closed.ensures c.if-is_closed.false) _ c.look-what.ensures 3 c.in-3.is (λ z. absurd (omega arith)))
 
 pub returns-then-deep-frames : goal.returns-then-deep-frames
-returns-then-deep-frames c = (c.moved-c.ensures.0, law.next_goes _ c.args.frames.now _ _ _ (moves.found_true c.is_closed.ensures c.if-is_closed.false) _ c.look-what.ensures _ c.rest_of.ensures _ c.moved-c.ensures.1 _ c.moved-c.ensures.2 1 c.in-1.is (λ z. absurd (omega arith)) _ (rw (c.peek.ensures.value, c.peek-then-deep-frames.ensures.value) refl) (rw (lt-ltb _ _ (rw c.moved-c.ensures.0 at c.if-deep-frames.true)) refl))
+returns-then-deep-frames c = (c.moved-c.ensures.0, law.next_goes _ c.args.frames.now _ _ _ (moves.found_true c.is_closed.ensures c.if-is_closed.false) _ c.look-what.ensures _ c.rest_of.ensures _ c.moved-c.ensures.1 _ c.moved-c.ensures.2 1 c.in-1.is (λ z. absurd (omega arith)) _ (rw (c.peek-kind.ensures.value, c.peek.ensures.value) refl) (rw (lt-ltb _ _ (rw c.moved-c.ensures.0 at c.if-deep-frames.true)) refl))
 
 pub returns-else-deep-frames : goal.returns-else-deep-frames
 returns-else-deep-frames c = (c.moved-c.ensures.0, law.next_full _ c.args.frames.now _ _ _ (moves.found_true c.is_closed.ensures c.if-is_closed.false) _ c.look-what.ensures _ c.rest_of.ensures _ c.moved-c.ensures.1 1 c.in-1.is (rw (le-ltb _ _ (rw c.moved-c.ensures.0 at c.if-deep-frames.false)) refl))

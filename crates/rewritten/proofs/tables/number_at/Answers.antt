@@ -1,6 +1,0 @@
-use lib.ListN.{get_or-eq_default}
-use mathlib.Core.Path.{sym}
-use Rattle.rewritten.proofs.tables.number_at.Goals as goal
-
-pub returns-else-i-numbers : goal.returns-else-i-numbers
-returns-else-i-numbers c = sym (get_or-eq_default c.args.numbers.now 0 c.if-i-numbers.false)
