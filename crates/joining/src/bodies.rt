@@ -11,26 +11,13 @@ use rewritten::step::Cursor;
 use rewritten::{look, next, seen};
 use tree::bytes;
 
-// 1 for Program, Block, FunctionBody, StaticBlock, Case.
-fn container(kind: usize) -> usize
-    ensures { result ≡ cond (is_container kind) 1 0 }
+// Program, Block, FunctionBody, StaticBlock, Case.
+const CONTAINERS: [usize; 5] = [1, 2, 16, 42, 44];
+
+fn is_container(kind: usize) -> bool
+    ensures { result ≡ is_container kind }
 {
-    if kind == 1 {
-        return 1;
-    }
-    if kind == 2 {
-        return 1;
-    }
-    if kind == 16 {
-        return 1;
-    }
-    if kind == 42 {
-        return 1;
-    }
-    if kind == 44 {
-        return 1;
-    }
-    0
+    CONTAINERS.contains(&kind)
 }
 
 // The last of the containers' lists; the item of one that has just begun, else 0.
@@ -46,7 +33,7 @@ fn begin(around: &mut [u16], kind: usize, at: usize, deep: usize) -> usize
     ensures { (around.new ≡ stored around.old (deep + 1) (cond (is_container kind) 1 0)) × (result ≡ cond (ltb 1 (get_or around.old deep 0)) at 0) }
 {
     let list = table::at(around, deep);
-    table::put(around, deep + 1, container(kind));
+    table::put(around, deep + 1, usize::from(is_container(kind)));
     if 1 < list { at } else { 0 }
 }
 
@@ -76,12 +63,10 @@ fn enter(
 fn mark(around: &[u16], holds: &mut [u16], before: &mut [u16], begun: usize, deep: usize)
     ensures { (e : List ℕ) (l at m : ℕ) → shelf around.now e holds.new before.new l 0 ≡ added (shelf around.now e holds.old before.old l begun) at deep (Mark m) }
 {
-    if 0 < begun {
-        if 0 < deep {
-            let list = table::at(around, deep - 1);
-            table::put(before, begun, table::at(holds, list));
-            table::put(holds, list, begun);
-        }
+    if 0 < begun && 0 < deep {
+        let list = table::at(around, deep - 1);
+        table::put(before, begun, table::at(holds, list));
+        table::put(holds, list, begun);
     }
 }
 
@@ -158,8 +143,8 @@ pub(crate) fn collect(
         return Found::NoTree;
     }
     seen::clear(seen);
-    table::clear(around);
-    table::clear(holds);
+    around.fill(0);
+    holds.fill(0);
     let mut cursor = next::begin();
     let mut bodies = Bodies {
         latest: 0,

@@ -53,8 +53,8 @@ fn joined(
 ) -> Joined
     ensures { Lent frames.old marks.old around.old earlier.old holds.old before.old → 16384 ≤ length ends.old → 32768 ≤ length more.old → 32768 ≤ length held.old → Answered tree.now list.now (length out.old) result.answer result.tree_len out.new }
 {
-    table::clear(more);
-    table::clear(held);
+    more.fill(0);
+    held.fill(0);
     match bodies::collect(tree, frames, marks, around, earlier, holds, before) {
         Found::Latest(latest) => match entries::read(list, frames, marks, ends) {
             Ending::At(excluded) => {

@@ -5,7 +5,7 @@ ghost use Rattle.joining.specs.Tables.{searched};
 use crate::table;
 use tree::bytes;
 
-// The list of a container and the statement in it, or 0 and 0.
+// The list of a container and the statement in it.
 #[derive(Clone, Copy)]
 pub(crate) struct Place {
     pub list: usize,
@@ -20,27 +20,19 @@ pub(crate) fn search(
     before: &[u16],
     latest: usize,
     mark: usize,
-) -> Place
+) -> Option<Place>
     ensures { result ≡ searched tree.now earlier.now holds.now before.now mark latest }
 {
-    let mut place = Place {
-        list: 0,
-        statement: 0,
-    };
     let mut list = latest;
     'containers: while 0 < list {
         let mut statement = table::at(holds, list);
         while 0 < statement {
             if bytes::wide_at(tree, statement + 2) == mark {
-                place = Place {
-                    list: list,
-                    statement: statement,
-                };
-                break 'containers;
+                return Some(Place { list, statement });
             }
             statement = table::back(before, statement);
         }
         list = table::back(earlier, list);
     }
-    place
+    None
 }

@@ -28,10 +28,9 @@ pub(crate) fn settle(
 ) -> bool
     ensures { settled result more.new held.new ≡ settles tree.now list.now earlier.now holds.now before.now latest ends.now (wide_at list.now 0) 2 more.old held.old }
 {
-    let mut left = bytes::wide_at(list, 0);
     let mut at = 2;
-    while 0 < left {
-        let place = search::search(
+    for _ in 0..bytes::wide_at(list, 0) {
+        let found = search::search(
             tree,
             earlier,
             holds,
@@ -39,13 +38,12 @@ pub(crate) fn settle(
             latest,
             bytes::wide_at(list, at),
         );
-        if place.statement == 0 {
+        let Some(place) = found else {
             return false;
-        }
+        };
         bump(more, place.list);
         bump(held, place.statement);
         at = table::at(ends, at);
-        left -= 1;
     }
     true
 }

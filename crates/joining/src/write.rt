@@ -1,5 +1,5 @@
 // The joined tree, written.
-ghost use Rattle.std.specs.Prelude.{◌≡◌, true, false, cond, ◌+◌, ◌-◌, ◌<◌, ◌≤◌, min, eqb, length, get_or};
+ghost use Rattle.std.specs.Prelude.{◌≡◌, true, false, ◌+◌, ◌-◌, ◌<◌, ◌≤◌, length, get_or};
 ghost use Rattle.tree.specs.Read.{wide_at};
 ghost use Rattle.joining.specs.Writing.{Copied, Calm, Quiet, part, declared, free_after, var_bytes, var_last, vars_bytes, vars_last, before_bytes, before_last, step_bytes, step_last, step_skips, rest_bytes, head_bytes, head_last, whole_bytes};
 
@@ -18,67 +18,41 @@ struct Spot {
 fn fresh(seen: &[u8], mark: usize) -> usize
     ensures { result ≡ free_after seen.now mark }
 {
-    let mut m = mark;
-    while m < 65535 {
-        m += 1;
-        if bytes::peek(seen, m) != 1 {
-            return m;
+    for m in mark..65535 {
+        if bytes::peek(seen, m + 1) != 1 {
+            return m + 1;
         }
     }
-    m
-}
-
-fn least(a: usize, b: usize) -> usize
-    ensures { result ≡ min a b }
-{
-    if a < b {
-        return a;
-    }
-    b
+    mark.max(65535)
 }
 
 // Bytes that have room, in one block.
 fn block(out: &mut [u8], at: usize, from: &[u8], start: usize, stop: usize) -> usize
-    requires { (stop ≤ length from.now) × (at + (stop - start) ≤ length out.old) }
+    requires { (start ≤ stop) × (stop ≤ length from.now) × (at + (stop - start) ≤ length out.old) }
     ensures { Copied out.old at (part start stop from.now) result out.new }
 {
-    let mut p = at;
-    let mut i = start;
-    while i < stop {
-        out[p] = from[i];
-        p += 1;
-        i += 1;
-    }
-    p
+    let end = at + (stop - start);
+    out[at..end].copy_from_slice(&from[start..stop]);
+    end
 }
 
 // Whether bytes have room in a slice from a position on.
 fn has_room(size: usize, at: usize, start: usize, stop: usize) -> bool
-    ensures { result ≡ true → at + (stop - start) ≤ size }
+    ensures { result ≡ true → (start ≤ stop) × (at + (stop - start) ≤ size) }
 {
-    if at < size {
-        if start < stop {
-            return stop - start <= size - at;
-        }
-    }
-    false
+    at < size && start < stop && stop - start <= size - at
 }
 
 // The bytes from a position up to another.
 fn copy(out: &mut [u8], at: usize, from: &[u8], start: usize, stop: usize) -> usize
     ensures { Copied out.old at (part start stop from.now) result out.new }
 {
-    if stop <= from.len() {
-        if has_room(out.len(), at, start, stop) {
-            return block(out, at, from, start, stop);
-        }
+    if stop <= from.len() && has_room(out.len(), at, start, stop) {
+        return block(out, at, from, start, stop);
     }
-    let end = least(stop, from.len());
     let mut p = at;
-    let mut i = start;
-    while i < end {
+    for i in start..stop.min(from.len()) {
         p = pen::put(out, p, from[i]);
-        i += 1;
     }
     p
 }
@@ -114,12 +88,10 @@ fn var(
 ) -> Spot
     ensures { at < 65536 → Copied out.old spot.at (var_bytes list.now seen.now mark at end spot.mark) result.at out.new × (result.mark ≡ var_last list.now seen.now mark at spot.mark) }
 {
-    if at < 65536 {
-        if bytes::wide_at(list, at) == mark {
-            let m = fresh(seen, spot.mark);
-            let to = declaration(out, spot.at, m, 1, list, at + 2, end);
-            return Spot { at: to, mark: m };
-        }
+    if at < 65536 && bytes::wide_at(list, at) == mark {
+        let mark = fresh(seen, spot.mark);
+        let at = declaration(out, spot.at, mark, 1, list, at + 2, end);
+        return Spot { at, mark };
     }
     spot
 }
@@ -128,14 +100,12 @@ fn var(
 fn vars(out: &mut [u8], spot: Spot, list: &[u8], ends: &[u16], seen: &[u8], mark: usize) -> Spot
     ensures { Copied out.old spot.at (vars_bytes list.now ends.now seen.now mark (wide_at list.now 0) 2 spot.mark) result.at out.new × (result.mark ≡ vars_last list.now ends.now seen.now mark (wide_at list.now 0) 2 spot.mark) }
 {
-    let mut left = bytes::wide_at(list, 0);
     let mut at = 2;
     let mut to = spot;
-    while 0 < left {
+    for _ in 0..bytes::wide_at(list, 0) {
         let end = table::at(ends, at);
         to = var(out, to, list, seen, mark, at, end);
         at = end;
-        left -= 1;
     }
     to
 }
@@ -154,19 +124,19 @@ fn head(
     let a = copy(out, 0, tree, 0, 2);
     let n = bytes::wide_at(tree, 2) + table::at(more, 2);
     if bytes::wide_at(list, excluded) == 0 {
-        let b = pen::put_wide(out, a, (n % 65536) as u16);
-        return Spot { at: b, mark: 0 };
+        let at = pen::put_wide(out, a, (n % 65536) as u16);
+        return Spot { at, mark: 0 };
     }
     let b = pen::put_wide(out, a, ((n + 1) % 65536) as u16);
-    let m = fresh(seen, 0);
-    let c = declaration(out, b, m, 3, list, excluded, list.len());
-    Spot { at: c, mark: m }
+    let mark = fresh(seen, 0);
+    let at = declaration(out, b, mark, 3, list, excluded, list.len());
+    Spot { at, mark }
 }
 
 fn byte(tree: &[u8], p: usize) -> u8
     ensures { result ≡ get_or tree.now p 0 }
 {
-    if p < tree.len() { tree[p] } else { 0 }
+    tree.get(p).copied().unwrap_or(0)
 }
 
 // The `var`s before the statement at a position, if there are any.
@@ -182,10 +152,8 @@ fn lead(
 ) -> Spot
     ensures { p < 65536 → Copied out.old spot.at (before_bytes tree.now list.now ends.now seen.now held.now p spot.mark) result.at out.new × (result.mark ≡ before_last tree.now list.now ends.now seen.now held.now p spot.mark) }
 {
-    if p < 65536 {
-        if 0 < table::at(held, p) {
-            return vars(out, spot, list, ends, seen, bytes::wide_at(tree, p + 2));
-        }
+    if p < 65536 && 0 < table::at(held, p) {
+        return vars(out, spot, list, ends, seen, bytes::wide_at(tree, p + 2));
     }
     spot
 }
@@ -208,36 +176,22 @@ fn step(
     if skip {
         return spot;
     }
-    let mark = spot.mark;
     let n = table::at(more, p);
     if 0 < n {
         let m = bytes::wide_at(tree, p) + n;
-        let to = pen::put_wide(out, spot.at, (m % 65536) as u16);
-        return Spot { at: to, mark: mark };
+        let at = pen::put_wide(out, spot.at, (m % 65536) as u16);
+        return Spot { at, ..spot };
     }
-    let s = lead(out, spot, tree, list, ends, seen, held, p);
-    let last = s.mark;
-    let end = pen::put(out, s.at, byte(tree, p));
-    Spot {
-        at: end,
-        mark: last,
-    }
+    let led = lead(out, spot, tree, list, ends, seen, held, p);
+    let at = pen::put(out, led.at, byte(tree, p));
+    Spot { at, ..led }
 }
 
 // Whether the next byte is passed over: a count has two.
 fn skips(more: &[u16], skip: bool, p: usize) -> bool
     ensures { result ≡ step_skips more.now skip p }
 {
-    if skip {
-        return false;
-    }
-    0 < table::at(more, p)
-}
-
-fn also_zero(still: bool, n: u16) -> bool
-    ensures { result ≡ cond (eqb n 0) still false }
-{
-    if n == 0 { still } else { false }
+    !skip && 0 < table::at(more, p)
 }
 
 // Whether a table has 0 from a position up to another.
@@ -246,10 +200,8 @@ fn calm(table: &[u16], start: usize, stop: usize) -> bool
     ensures { result ≡ true → Calm table.now start stop }
 {
     let mut still = true;
-    let mut i = start;
-    while i < stop {
-        still = also_zero(still, table[i]);
-        i += 1;
+    for i in start..stop {
+        still &= table[i] == 0;
     }
     still
 }
@@ -260,19 +212,8 @@ fn blocks(more: &[u16], held: &[u16], start: usize, stop: usize) -> usize
     ensures { Quiet more.now held.now start stop result }
 {
     let mut i = start;
-    while i < stop {
-        if stop - i < 64 {
-            return i;
-        }
-        if calm(more, i, i + 64) {
-            if calm(held, i, i + 64) {
-                i += 64;
-            } else {
-                return i;
-            }
-        } else {
-            return i;
-        }
+    while i < stop && 64 <= stop - i && calm(more, i, i + 64) && calm(held, i, i + 64) {
+        i += 64;
     }
     i
 }
@@ -281,18 +222,14 @@ fn blocks(more: &[u16], held: &[u16], start: usize, stop: usize) -> usize
 fn quiet(more: &[u16], held: &[u16], start: usize, end: usize) -> usize
     ensures { Quiet more.now held.now start end result }
 {
-    let stop = least(end, least(more.len(), held.len()));
-    let mut i = blocks(more, held, start, stop);
-    while i < stop {
-        if more[i] != 0 {
+    let stop = end.min(more.len()).min(held.len());
+    let calm_end = blocks(more, held, start, stop);
+    for i in calm_end..stop {
+        if more[i] != 0 || held[i] != 0 {
             return i;
         }
-        if held[i] != 0 {
-            return i;
-        }
-        i += 1;
     }
-    i
+    calm_end.max(stop)
 }
 
 // The next place to look at: the first byte of those that are left, if it is passed over.
@@ -300,9 +237,10 @@ fn place(more: &[u16], held: &[u16], skip: bool, start: usize, end: usize) -> us
     ensures { Quiet more.now held.now start end result × (skip ≡ true → result ≡ start) }
 {
     if skip {
-        return start;
+        start
+    } else {
+        quiet(more, held, start, end)
     }
-    quiet(more, held, start, end)
 }
 
 // What is behind the head: what lies between the places that change is copied.
@@ -323,11 +261,10 @@ fn rest(
     let mut p = 4;
     while p < tree.len() {
         let q = place(more, held, skip, p, tree.len() - 1);
-        let mark = to.mark;
         let at = copy(out, to.at, tree, p, q);
         to = step(
             out,
-            Spot { at: at, mark: mark },
+            Spot { at, ..to },
             tree,
             list,
             ends,

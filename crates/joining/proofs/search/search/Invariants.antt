@@ -4,13 +4,13 @@ use Rattle.joining.proofs.FallingChains as law
 use Rattle.joining.proofs.search.search.Given as goal
 
 abbrev pub invariant-loop-statement : goal.invariant-loop-statement
-invariant-loop-statement l = law.Inner l.tree l.earlier l.holds l.before l.mark (searched l.tree l.earlier l.holds l.before l.mark l.latest) l.place l.list l.statement × (l.statement < 65536)
+invariant-loop-statement l = law.Inner l.tree l.earlier l.holds l.before l.mark (searched l.tree l.earlier l.holds l.before l.mark l.latest) l.list l.statement × (l.statement < 65536)
 
 abbrev pub decreases-loop-statement : goal.decreases-loop-statement
 decreases-loop-statement l = l.statement
 
 abbrev pub invariant-containers : goal.invariant-containers
-invariant-containers l = law.Outer l.tree l.earlier l.holds l.before l.mark (searched l.tree l.earlier l.holds l.before l.mark l.latest) l.place l.list
+invariant-containers l = law.Outer l.tree l.earlier l.holds l.before l.mark (searched l.tree l.earlier l.holds l.before l.mark l.latest) l.list
 
 abbrev pub decreases-containers : goal.decreases-containers
 decreases-containers l = l.list
