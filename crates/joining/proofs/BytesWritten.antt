@@ -19,7 +19,7 @@ use Rattle.drawing.proofs.DrawingEntry.{reach_fits}
 use Rattle.std.proofs.lemmas.List.{length-take, length-drop}
 use Rattle.std.proofs.lemmas.List.Edits.{sets, sets-eq}
 use Rattle.std.proofs.lemmas.Grind.{common_steps}
-use Rattle.joining.specs.Writing.{Copied, part, declared, free_from, free_after, var_bytes, var_last, vars_bytes, vars_last, before_bytes, before_last, step_bytes, step_last, step_skips, rest_bytes, Calm, Quiet, head_bytes, head_last, whole_bytes, Finished}
+use Rattle.joining.specs.Writing.{Copied, part, declared, free_from, free_after, var_bytes, var_last, vars_bytes, vars_last, before_bytes, before_last, step_bytes, step_last, step_skips, rest_bytes, Calm, Quiet, head_bytes, head_last, whole_bytes}
 
 -- ---- one after the other
 
@@ -357,17 +357,3 @@ pub whole_written : (tree list ends seen more held : List ℕ) (excluded : ℕ) 
 unfolding whole_bytes
 whole_written tree list ends seen more held excluded l a last m q k h r =
     copied_then l 0 (head_bytes tree list seen more excluded) (rest_bytes tree list ends seen more held (length tree - 4) false 4 (head_last list seen excluded)) a m q k h.0 (rw h.1 at r)
-
--- ---- the end
-
-finished_over : (l : List ℕ) (n a t : ℕ) (l' : List ℕ) → min (length l) 32768 < n → (a ≡ 7) × (t ≡ 0) × (l' ≡ replicate (length l) 0) → Finished l n a t l'
-finished_over l n a t l' h e = rw (lt-leb n (min (length l) 32768) h) e
-
-pub finished_long : (l : List ℕ) (n a t : ℕ) (l' : List ℕ) → 32768 < n → (a ≡ 7) × (t ≡ 0) × (l' ≡ replicate (length l) 0) → Finished l n a t l'
-finished_long l n a t l' h e = finished_over l n a t l' (omega arith) e
-
-pub finished_short : (l : List ℕ) (n a t : ℕ) (l' : List ℕ) → length l < n → (a ≡ 7) × (t ≡ 0) × (l' ≡ replicate (length l) 0) → Finished l n a t l'
-finished_short l n a t l' h e = finished_over l n a t l' (omega arith) e
-
-pub finished_in : (l : List ℕ) (n : ℕ) → n ≤ 32768 → n ≤ length l → Finished l n 0 n l
-finished_in l n h g = rw (le-leb n (min (length l) 32768) (omega arith)) (refl, refl, refl)

@@ -85,43 +85,23 @@ fn add(
     requires { (deep < 65536) × (what % 16 ≡ 0 → ⊥) }
     ensures { shelf around.new earlier.new holds.new before.new result.latest result.begun ≡ added (shelf around.old earlier.old holds.old before.old bodies.latest bodies.begun) at deep (event_for tree.now at (what % 16) (what / 16)) }
 {
-    let latest = bodies.latest;
     let code = what % 16;
+    if code == 2 {
+        let latest = enter(around, earlier, holds, bodies.latest, at, deep);
+        return Bodies { latest, begun: 0 };
+    }
     if code < 3 {
-        if code == 2 {
-            let last = enter(around, earlier, holds, latest, at, deep);
-            return Bodies {
-                latest: last,
-                begun: 0,
-            };
-        }
         let begun = begin(around, bytes::peek(tree, at), at, deep);
-        return Bodies {
-            latest: latest,
-            begun: begun,
-        };
+        return Bodies { begun, ..bodies };
     }
     if code == 4 {
         mark(around, holds, before, bodies.begun, deep);
-        return Bodies {
-            latest: latest,
-            begun: 0,
-        };
     }
-    Bodies {
-        latest: latest,
-        begun: 0,
-    }
+    Bodies { begun: 0, ..bodies }
 }
 
-// The last of the containers' lists; or the bytes are no rewritten tree.
-#[derive(Clone, Copy)]
-pub(crate) enum Found {
-    Latest(usize),
-    NoTree,
-}
-
-// The tree is read and toured at once. Right if enough is lent of each table.
+// The tree is read and toured at once. The last of the containers' lists, if the bytes are a rewritten tree. Right if
+// enough is lent of each table.
 pub(crate) fn collect(
     tree: &[u8],
     frames: &mut [usize],
@@ -130,17 +110,11 @@ pub(crate) fn collect(
     earlier: &mut [u16],
     holds: &mut [u16],
     before: &mut [u16],
-) -> Found
+) -> Option<usize>
     ensures { Lent frames.old seen.old around.old earlier.old holds.old before.old → Toured tree.now seen.new earlier.new holds.new before.new result }
 {
-    if 32768 < tree.len() {
-        return Found::NoTree;
-    }
-    if frames.len() < 16384 {
-        return Found::NoTree;
-    }
-    if seen.len() < 65536 {
-        return Found::NoTree;
+    if 32768 < tree.len() || frames.len() < 16384 || seen.len() < 65536 {
+        return None;
     }
     seen::clear(seen);
     around.fill(0);
@@ -157,31 +131,27 @@ pub(crate) fn collect(
         if look::is_closed(top) {
             if deep == 0 {
                 if at == tree.len() {
-                    return Found::Latest(bodies.latest);
+                    return Some(bodies.latest);
                 }
-                return Found::NoTree;
+                return None;
             }
-            let latest = bodies.latest;
-            bodies = Bodies {
-                latest: latest,
-                begun: 0,
-            };
+            bodies = Bodies { begun: 0, ..bodies };
             cursor = Cursor {
-                at: at,
+                at,
                 deep: deep - 1,
                 top: next::frame_at(frames, deep - 1),
             };
         } else {
             let what = look::look(tree, at, top);
             if what % 16 == 0 {
-                return Found::NoTree;
+                return None;
             }
             if seen::is_new_ahead(seen, what) {
                 seen::note_ahead(seen, what);
                 bodies = add(tree, around, earlier, holds, before, bodies, at, deep, what);
                 cursor = next::moved(tree, frames, at, deep, look::rest_of(top), what);
             } else {
-                return Found::NoTree;
+                return None;
             }
         }
     }
