@@ -6,7 +6,7 @@ use mathlib.Core.List.{List}
 use mathlib.Core.Bool.{Bool, true, false, cond}
 use native.Mathlib.Omega.{arith}
 use native.Mathlib.Decide.{dec_lt}
-use lib.Dec.{ltb, leb}
+use lib.Dec.{ltb}
 use lib.ListN.{length, get_or, replicate, length-replicate}
 use borrow.Author.Tests.{le-leb, lt-leb}
 use Rattle.tree.specs.Tree.{Node, encode, marks}
@@ -35,7 +35,6 @@ use Rattle.joining.specs.Entries.Told.{lost}
 use Rattle.std.specs.Prelude.{Option, Some, None, Result, Ok, Err}
 use Rattle.std.specs.Option.{ok_or}
 use Rattle.joining.specs.declared.Refusal.{Refusal}
-use Rattle.joining.specs.declared.Refusal.TheVariants.{NoTree, NoList, NotFound, TooLong}
 use Rattle.joining.proofs.FallingChains.{chain_within}
 use Rattle.joining.proofs.Listing.{at_ends, missing_ends, at_then}
 use Rattle.joining.proofs.Times.{times_append, among_times, distinct_once, distinct_not, once_distinct}

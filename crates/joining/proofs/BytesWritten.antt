@@ -7,13 +7,13 @@ use Prim.Native.Nat.{ℕ, zero, suc, ◌+◌, ◌-◌, ◌%◌, ◌<◌, ◌≤�
 use native.Mathlib.Omega.{arith}
 use native.Mathlib.Decide.{dec_lt}
 use lib.Dec.{eqb, ltb}
-use lib.ListN.{length, get_or, set, take, drop, replicate, length-set, drop_of_length-le}
+use lib.ListN.{length, get_or, set, take, drop, length-set, drop_of_length-le}
 use lib.Seq.{drop-cons}
-use borrow.Author.Tests.{eqb-true, eq-eqb, ne_eqb, lt-ltb, le-ltb, lt-leb, le-leb}
+use borrow.Author.Tests.{eqb-true, eq-eqb, ne_eqb, lt-ltb, le-ltb}
 use Rattle.tree.specs.Tree.{wide_bytes}
 use Rattle.tree.specs.Read.{byte_at, wide_at}
 use Rattle.drawing.specs.Pen.{next, put, reach}
-use borrow.Rule.Slice.PartMut.{put_mid, post_of}
+use borrow.Rule.Slice.PartMut.{put_mid}
 use Rattle.drawing.proofs.DrawingWritten.{Put, Wide, put_length, put_two, reach_two, next_in_lem}
 use Rattle.drawing.proofs.DrawingEntry.{reach_fits}
 use Rattle.std.proofs.lemmas.List.{length-take, length-drop}
@@ -111,7 +111,6 @@ pub block_written : (l : List ℕ) (at : ℕ) (from : List ℕ) (start stop : �
 block_written l at from start stop h g r k d xs e =
     let n : length (part start stop from) ≡ stop - start = part_length from start stop g in
     (sym (reach_fits (length l) at (part start stop from) (omega arith) ∙ omega arith), rw (d, e, ← n) (sym (put_whole l at (part start stop from) (omega arith))))
-
 
 -- ---- a Declaration
 

@@ -1,6 +1,6 @@
 -- Each entry to its statement: the tables count the entries of each list and of each statement.
 -- Assumes nothing.
-use Prim.Native.Nat.{ℕ, zero, suc, ◌+◌, ◌-◌, ◌<◌, ◌≤◌}
+use Prim.Native.Nat.{ℕ, zero, suc, ◌+◌, ◌<◌, ◌≤◌}
 use mathlib.Core.Path.{◌≡◌, refl, sym, ap, ◌∙◌}
 use mathlib.Core.List.{List, [], ◌∷◌, ◌++◌}
 use mathlib.Core.Bool.{Bool, true, false, cond}
@@ -30,7 +30,7 @@ use Rattle.joining.specs.Settle.{bumped, Settled, settled, place_at, placed, set
 use Rattle.std.specs.Prelude as prelude
 use Rattle.std.specs.Prelude.{Some, None}
 use Rattle.joining.specs.declared.search.Place.{Place}
-use Rattle.joining.proofs.FallingChains.{put_in, stored_length, chain_within, Has, Lacks, Ended, search_ends}
+use Rattle.joining.proofs.FallingChains.{put_in, stored_length, Has, Lacks, Ended, search_ends}
 use Rattle.joining.proofs.Times.{times_append, among_times}
 
 -- ---- the loop

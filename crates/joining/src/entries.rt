@@ -59,7 +59,12 @@ fn entries(list: &[u8], frames: &mut [usize], seen: &mut [u8], ends: &mut [u16])
 }
 
 // The whole list. Returns where the excluded keys begin.
-pub(crate) fn read(list: &[u8], frames: &mut [usize], seen: &mut [u8], ends: &mut [u16]) -> Option<usize>
+pub(crate) fn read(
+    list: &[u8],
+    frames: &mut [usize],
+    seen: &mut [u8],
+    ends: &mut [u16],
+) -> Option<usize>
     ensures { (met : List ℕ) → Notes seen.old met → 16384 ≤ length frames.old → 16384 ≤ length ends.old → Ends result seen.new (run_list list.now met) × IfAt result (Listed list.now ends.new (wide_at list.now 0) 2) }
 {
     if 16384 < list.len() {

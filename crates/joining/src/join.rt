@@ -25,8 +25,9 @@ fn joined(
 {
     more.fill(0);
     held.fill(0);
-    let latest =
-        bodies::collect(tree, frames, marks, around, earlier, holds, before).ok_or(Refusal::NoTree)?;
+    let latest = bodies::collect(tree, frames, marks, around, earlier, holds, before).ok_or(
+        Refusal::NoTree,
+    )?;
     let excluded = entries::read(list, frames, marks, ends).ok_or(Refusal::NoList)?;
     if !settle::settle(tree, list, earlier, holds, before, latest, ends, more, held) {
         return Err(Refusal::NotFound);

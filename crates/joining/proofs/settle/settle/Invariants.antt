@@ -1,7 +1,6 @@
 use Prim.Native.Nat.{◌-◌}
 use Rattle.joining.specs.Settle.{settles}
 use Rattle.tree.specs.Read.{wide_at}
-use lib.ListN.{length}
 use mathlib.Core.Path.{◌≡◌}
 use Rattle.joining.proofs.settle.settle.Given as goal
 
