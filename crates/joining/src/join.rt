@@ -3,7 +3,8 @@ ghost use Rattle.std.specs.Prelude.{◌≤◌, length};
 ghost use Rattle.joining.specs.Answer.{Answered, Told};
 ghost use Rattle.joining.specs.Files.{Lent};
 
-use crate::{Joined, Refusal, bodies, entries, settle, write};
+use crate::write::Source;
+use crate::{Joined, Refusal, bodies, entries, settle};
 use drawing::pen;
 
 // The length of the joined tree. Right if 16,384 frames, 65,536 bytes for marks and a place for each byte are lent.
@@ -33,7 +34,15 @@ fn joined(
         return Err(Refusal::NotFound);
     }
     pen::clear(out);
-    let n = write::write(tree, list, excluded, marks, ends, more, held, out);
+    let source = Source {
+        tree,
+        list,
+        seen: marks,
+        ends,
+        more,
+        held,
+    };
+    let n = source.write(excluded, out);
     if 32768 < n || out.len() < n {
         return Err(Refusal::TooLong);
     }

@@ -14,6 +14,18 @@ struct Spot {
     pub mark: usize,
 }
 
+// What the joined tree is written from: the tree and the list; the marks that are taken; where each entry ends; and how many
+// statements are new in a list, and before a statement.
+#[derive(Clone, Copy)]
+pub(crate) struct Source<'a> {
+    pub tree: &'a [u8],
+    pub list: &'a [u8],
+    pub seen: &'a [u8],
+    pub ends: &'a [u16],
+    pub more: &'a [u16],
+    pub held: &'a [u16],
+}
+
 // The next mark that is not taken.
 fn fresh(seen: &[u8], mark: usize) -> usize
     ensures { result ≡ free_after seen.now mark }
@@ -76,115 +88,10 @@ fn declaration(
     copy(out, d, list, start, stop)
 }
 
-// An entry as a `var`, if it has the mark.
-fn var(
-    out: &mut [u8],
-    spot: Spot,
-    list: &[u8],
-    seen: &[u8],
-    mark: usize,
-    at: usize,
-    end: usize,
-) -> Spot
-    ensures { at < 65536 → Copied out.old spot.at (var_bytes list.now seen.now mark at end spot.mark) result.at out.new × (result.mark ≡ var_last list.now seen.now mark at spot.mark) }
-{
-    if at < 65536 && bytes::wide_at(list, at) == mark {
-        let mark = fresh(seen, spot.mark);
-        let at = declaration(out, spot.at, mark, 1, list, at + 2, end);
-        return Spot { at, mark };
-    }
-    spot
-}
-
-// The entries of a mark, each as a `var`.
-fn vars(out: &mut [u8], spot: Spot, list: &[u8], ends: &[u16], seen: &[u8], mark: usize) -> Spot
-    ensures { Copied out.old spot.at (vars_bytes list.now ends.now seen.now mark (wide_at list.now 0) 2 spot.mark) result.at out.new × (result.mark ≡ vars_last list.now ends.now seen.now mark (wide_at list.now 0) 2 spot.mark) }
-{
-    let mut at = 2;
-    let mut to = spot;
-    for _ in 0..bytes::wide_at(list, 0) {
-        let end = table::at(ends, at);
-        to = var(out, to, list, seen, mark, at, end);
-        at = end;
-    }
-    to
-}
-
-// The head: the Program's kind and bit map, its count, and a `const` if there are excluded keys.
-fn head(
-    tree: &[u8],
-    out: &mut [u8],
-    list: &[u8],
-    excluded: usize,
-    seen: &[u8],
-    more: &[u16],
-) -> Spot
-    ensures { Copied out.old 0 (head_bytes tree.now list.now seen.now more.now excluded) result.at out.new × (result.mark ≡ head_last list.now seen.now excluded) }
-{
-    let a = copy(out, 0, tree, 0, 2);
-    let n = bytes::wide_at(tree, 2) + table::at(more, 2);
-    if bytes::wide_at(list, excluded) == 0 {
-        let at = pen::put_wide(out, a, (n % 65536) as u16);
-        return Spot { at, mark: 0 };
-    }
-    let b = pen::put_wide(out, a, ((n + 1) % 65536) as u16);
-    let mark = fresh(seen, 0);
-    let at = declaration(out, b, mark, 3, list, excluded, list.len());
-    Spot { at, mark }
-}
-
 fn byte(tree: &[u8], p: usize) -> u8
     ensures { result ≡ get_or tree.now p 0 }
 {
     tree.get(p).copied().unwrap_or(0)
-}
-
-// The `var`s before the statement at a position, if there are any.
-fn lead(
-    out: &mut [u8],
-    spot: Spot,
-    tree: &[u8],
-    list: &[u8],
-    ends: &[u16],
-    seen: &[u8],
-    held: &[u16],
-    p: usize,
-) -> Spot
-    ensures { p < 65536 → Copied out.old spot.at (before_bytes tree.now list.now ends.now seen.now held.now p spot.mark) result.at out.new × (result.mark ≡ before_last tree.now list.now ends.now seen.now held.now p spot.mark) }
-{
-    if p < 65536 && 0 < table::at(held, p) {
-        return vars(out, spot, list, ends, seen, bytes::wide_at(tree, p + 2));
-    }
-    spot
-}
-
-// What is written for the byte at a position; nothing if it is passed over.
-fn step(
-    out: &mut [u8],
-    spot: Spot,
-    tree: &[u8],
-    list: &[u8],
-    ends: &[u16],
-    seen: &[u8],
-    more: &[u16],
-    held: &[u16],
-    skip: bool,
-    p: usize,
-) -> Spot
-    ensures { p < 65536 → Copied out.old spot.at (step_bytes tree.now list.now ends.now seen.now more.now held.now skip p spot.mark) result.at out.new × (result.mark ≡ step_last tree.now list.now ends.now seen.now more.now held.now skip p spot.mark) }
-{
-    if skip {
-        return spot;
-    }
-    let n = table::at(more, p);
-    if 0 < n {
-        let m = bytes::wide_at(tree, p) + n;
-        let at = pen::put_wide(out, spot.at, (m % 65536) as u16);
-        return Spot { at, ..spot };
-    }
-    let led = lead(out, spot, tree, list, ends, seen, held, p);
-    let at = pen::put(out, led.at, byte(tree, p));
-    Spot { at, ..led }
 }
 
 // Whether the next byte is passed over: a count has two.
@@ -243,56 +150,99 @@ fn place(more: &[u16], held: &[u16], skip: bool, start: usize, end: usize) -> us
     }
 }
 
-// What is behind the head: what lies between the places that change is copied.
-fn rest(
-    out: &mut [u8],
-    spot: Spot,
-    tree: &[u8],
-    list: &[u8],
-    ends: &[u16],
-    seen: &[u8],
-    more: &[u16],
-    held: &[u16],
-) -> usize
-    ensures { length tree.now ≤ 32768 → Copied out.old spot.at (rest_bytes tree.now list.now ends.now seen.now more.now held.now (length tree.now - 4) false 4 spot.mark) result out.new }
-{
-    let mut to = spot;
-    let mut skip = false;
-    let mut p = 4;
-    while p < tree.len() {
-        let q = place(more, held, skip, p, tree.len() - 1);
-        let at = copy(out, to.at, tree, p, q);
-        to = step(
-            out,
-            Spot { at, ..to },
-            tree,
-            list,
-            ends,
-            seen,
-            more,
-            held,
-            skip,
-            q,
-        );
-        skip = skips(more, skip, q);
-        p = q + 1;
+impl<'a> Source<'a> {
+    // An entry as a `var`, if it has the mark.
+    fn var(&self, out: &mut [u8], spot: Spot, mark: usize, at: usize, end: usize) -> Spot
+        ensures { at < 65536 → Copied out.old spot.at (var_bytes self.now.list.now self.now.seen.now mark at end spot.mark) result.at out.new × (result.mark ≡ var_last self.now.list.now self.now.seen.now mark at spot.mark) }
+    {
+        if at < 65536 && bytes::wide_at(self.list, at) == mark {
+            let mark = fresh(self.seen, spot.mark);
+            let at = declaration(out, spot.at, mark, 1, self.list, at + 2, end);
+            return Spot { at, mark };
+        }
+        spot
     }
-    to.at
-}
 
-// The whole tree; where it ends, one byte past the slice at most.
-pub(crate) fn write(
-    tree: &[u8],
-    list: &[u8],
-    excluded: usize,
-    seen: &[u8],
-    ends: &[u16],
-    more: &[u16],
-    held: &[u16],
-    out: &mut [u8],
-) -> usize
-    ensures { length tree.now ≤ 32768 → Copied out.old 0 (whole_bytes tree.now list.now ends.now seen.now more.now held.now excluded) result out.new }
-{
-    let spot = head(tree, out, list, excluded, seen, more);
-    rest(out, spot, tree, list, ends, seen, more, held)
+    // The entries of a mark, each as a `var`.
+    fn vars(&self, out: &mut [u8], spot: Spot, mark: usize) -> Spot
+        ensures { Copied out.old spot.at (vars_bytes self.now.list.now self.now.ends.now self.now.seen.now mark (wide_at self.now.list.now 0) 2 spot.mark) result.at out.new × (result.mark ≡ vars_last self.now.list.now self.now.ends.now self.now.seen.now mark (wide_at self.now.list.now 0) 2 spot.mark) }
+    {
+        let mut at = 2;
+        let mut to = spot;
+        for _ in 0..bytes::wide_at(self.list, 0) {
+            let end = table::at(self.ends, at);
+            to = self.var(out, to, mark, at, end);
+            at = end;
+        }
+        to
+    }
+
+    // The head: the Program's kind and bit map, its count, and a `const` if there are excluded keys.
+    fn head(&self, out: &mut [u8], excluded: usize) -> Spot
+        ensures { Copied out.old 0 (head_bytes self.now.tree.now self.now.list.now self.now.seen.now self.now.more.now excluded) result.at out.new × (result.mark ≡ head_last self.now.list.now self.now.seen.now excluded) }
+    {
+        let a = copy(out, 0, self.tree, 0, 2);
+        let n = bytes::wide_at(self.tree, 2) + table::at(self.more, 2);
+        if bytes::wide_at(self.list, excluded) == 0 {
+            let at = pen::put_wide(out, a, (n % 65536) as u16);
+            return Spot { at, mark: 0 };
+        }
+        let b = pen::put_wide(out, a, ((n + 1) % 65536) as u16);
+        let mark = fresh(self.seen, 0);
+        let at = declaration(out, b, mark, 3, self.list, excluded, self.list.len());
+        Spot { at, mark }
+    }
+
+    // The `var`s before the statement at a position, if there are any.
+    fn lead(&self, out: &mut [u8], spot: Spot, p: usize) -> Spot
+        ensures { p < 65536 → Copied out.old spot.at (before_bytes self.now.tree.now self.now.list.now self.now.ends.now self.now.seen.now self.now.held.now p spot.mark) result.at out.new × (result.mark ≡ before_last self.now.tree.now self.now.list.now self.now.ends.now self.now.seen.now self.now.held.now p spot.mark) }
+    {
+        if p < 65536 && 0 < table::at(self.held, p) {
+            return self.vars(out, spot, bytes::wide_at(self.tree, p + 2));
+        }
+        spot
+    }
+
+    // What is written for the byte at a position; nothing if it is passed over.
+    fn step(&self, out: &mut [u8], spot: Spot, skip: bool, p: usize) -> Spot
+        ensures { p < 65536 → Copied out.old spot.at (step_bytes self.now.tree.now self.now.list.now self.now.ends.now self.now.seen.now self.now.more.now self.now.held.now skip p spot.mark) result.at out.new × (result.mark ≡ step_last self.now.tree.now self.now.list.now self.now.ends.now self.now.seen.now self.now.more.now self.now.held.now skip p spot.mark) }
+    {
+        if skip {
+            return spot;
+        }
+        let n = table::at(self.more, p);
+        if 0 < n {
+            let m = bytes::wide_at(self.tree, p) + n;
+            let at = pen::put_wide(out, spot.at, (m % 65536) as u16);
+            return Spot { at, ..spot };
+        }
+        let led = self.lead(out, spot, p);
+        let at = pen::put(out, led.at, byte(self.tree, p));
+        Spot { at, ..led }
+    }
+
+    // What is behind the head: what lies between the places that change is copied.
+    fn rest(&self, out: &mut [u8], spot: Spot) -> usize
+        ensures { length self.now.tree.now ≤ 32768 → Copied out.old spot.at (rest_bytes self.now.tree.now self.now.list.now self.now.ends.now self.now.seen.now self.now.more.now self.now.held.now (length self.now.tree.now - 4) false 4 spot.mark) result out.new }
+    {
+        let mut to = spot;
+        let mut skip = false;
+        let mut p = 4;
+        while p < self.tree.len() {
+            let q = place(self.more, self.held, skip, p, self.tree.len() - 1);
+            let at = copy(out, to.at, self.tree, p, q);
+            to = self.step(out, Spot { at, ..to }, skip, q);
+            skip = skips(self.more, skip, q);
+            p = q + 1;
+        }
+        to.at
+    }
+
+    // The whole tree; where it ends, one byte past the slice at most.
+    pub(crate) fn write(&self, excluded: usize, out: &mut [u8]) -> usize
+        ensures { length self.now.tree.now ≤ 32768 → Copied out.old 0 (whole_bytes self.now.tree.now self.now.list.now self.now.ends.now self.now.seen.now self.now.more.now self.now.held.now excluded) result out.new }
+    {
+        let spot = self.head(out, excluded);
+        self.rest(out, spot)
+    }
 }

@@ -1,5 +1,5 @@
 use Rattle.joining.proofs.BytesWritten as law
-use Rattle.joining.proofs.write.step.Goals as goal
+use Rattle.joining.proofs.write.Source.step.Goals as goal
 
 pub returns-then-skip : goal.returns-then-skip
 returns-then-skip c = λ h. law.step_passed _ _ _ _ _ _ _ _ _ _ _ c.if-skip.true

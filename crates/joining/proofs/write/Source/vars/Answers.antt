@@ -1,6 +1,6 @@
 use native.Mathlib.Omega.{arith}
 use Rattle.joining.proofs.BytesWritten as law
-use Rattle.joining.proofs.write.vars.Goals as goal
+use Rattle.joining.proofs.write.Source.vars.Goals as goal
 
 pub loop-init : goal.loop-init
 loop-init c = law.telling_start _ _ _ _ _ _ _ _ _ (omega (arith, c.wide_at-end.ensures.value))

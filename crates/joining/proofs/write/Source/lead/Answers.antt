@@ -1,7 +1,7 @@
 use native.Mathlib.Omega.{arith}
 use Rattle.joining.proofs.BytesWritten as law
-use Rattle.joining.proofs.write.lead.Goals as goal
-use Rattle.joining.proofs.write.lead.Goals.{else-p-lt65536-via-then-p-lt65536+else-at-gt0, else-p-lt65536-via-else-p-lt65536}
+use Rattle.joining.proofs.write.Source.lead.Goals as goal
+use Rattle.joining.proofs.write.Source.lead.Goals.{else-p-lt65536-via-then-p-lt65536+else-at-gt0, else-p-lt65536-via-else-p-lt65536}
 
 pub returns-then-at-gt0 : goal.returns-then-at-gt0
 returns-then-at-gt0 c = λ h. law.before_some _ _ _ _ _ _ _ _ _ _ _ _ _ _ c.at.ensures.0 c.if-at-gt0.true c.wide_at.ensures.value c.vars.ensures
