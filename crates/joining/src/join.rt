@@ -3,6 +3,7 @@ ghost use Rattle.std.specs.Prelude.{◌≤◌, length};
 ghost use Rattle.joining.specs.Answer.{Answered, Told};
 ghost use Rattle.joining.specs.Files.{Lent};
 
+use crate::search::Filed;
 use crate::write::Source;
 use crate::{Joined, Refusal, bodies, entries, settle};
 use drawing::pen;
@@ -30,7 +31,13 @@ fn joined(
         Refusal::NoTree,
     )?;
     let excluded = entries::read(list, frames, marks, ends).ok_or(Refusal::NoList)?;
-    if !settle::settle(tree, list, earlier, holds, before, latest, ends, more, held) {
+    let filed = Filed {
+        earlier,
+        holds,
+        before,
+        latest,
+    };
+    if !settle::settle(tree, list, &filed, ends, more, held) {
         return Err(Refusal::NotFound);
     }
     pen::clear(out);

@@ -1,6 +1,6 @@
 use native.Mathlib.Omega.{arith}
 use Rattle.joining.proofs.FallingChains as law
-use Rattle.joining.proofs.search.search.Goals as goal
+use Rattle.joining.proofs.search.Filed.search.Goals as goal
 
 pub containers-init : goal.containers-init
 containers-init c = law.outer_start _ _ _ _ _ _
