@@ -2,9 +2,7 @@
 // tree in hexadecimal, a line each; the second is empty on a refusal. Fewer bytes than the length says: 3.
 #![tactic(auto)]
 
-ghost use Rattle.std.specs.Prelude.{◌≡◌};
-
-use joining::{Joined, join};
+use joining::{Joined, Refusal, join};
 use tree::bytes;
 
 // Standard input and output.
@@ -15,19 +13,13 @@ const STDOUT_FILENO: i32 = 1;
 // A length, a tree of 32,768 bytes, a list of 16,384 and a byte behind it, so that a longer list is seen.
 const ROOM: usize = 65538;
 
-fn wide(b: u8) -> u64
-    ensures { result ≡ b }
-{
-    b as u64
-}
-
 fn say(text: &[u8]) {
     io::write_all(STDOUT_FILENO, text);
 }
 
 fn say_tree(tree: &[u8]) {
-    for i in 0..tree.len() {
-        io::print_hex(STDOUT_FILENO, wide(tree[i]), 2);
+    for byte in tree {
+        io::print_hex(STDOUT_FILENO, u64::from(*byte), 2);
     }
     say(b"\n");
 }
@@ -35,10 +27,7 @@ fn say_tree(tree: &[u8]) {
 fn joined(input: &[u8], out: &mut [u8]) -> Joined {
     let n = bytes::wide_at(input, 0);
     if input.len() < n + 2 {
-        return Joined {
-            answer: 3,
-            tree_len: 0,
-        };
+        return Joined::from(Refusal::NoTree);
     }
     join::join(&input[2..n + 2], &input[n + 2..], out)
 }
@@ -46,7 +35,7 @@ fn joined(input: &[u8], out: &mut [u8]) -> Joined {
 fn report(input: &[u8], out: &mut [u8]) {
     let r = joined(input, out);
     let n = r.tree_len;
-    io::print_decimal(STDOUT_FILENO, wide(r.answer));
+    io::print_decimal(STDOUT_FILENO, u64::from(r.answer));
     say(b"\n");
     if n <= out.len() {
         say_tree(&out[..n]);

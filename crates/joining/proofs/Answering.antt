@@ -6,7 +6,7 @@ use mathlib.Core.List.{List}
 use mathlib.Core.Bool.{Bool, true, false, cond}
 use native.Mathlib.Omega.{arith}
 use native.Mathlib.Decide.{dec_lt}
-use lib.Dec.{ltb, leb}
+use lib.Dec.{ltb}
 use lib.ListN.{length, get_or, replicate, length-replicate}
 use borrow.Author.Tests.{le-leb, lt-leb}
 use Rattle.tree.specs.Tree.{Node, encode, marks}
@@ -24,18 +24,17 @@ use Rattle.drawing.proofs.DrawingWritten.{put_length}
 use Rattle.drawing.proofs.DrawingEntry.{reach_over, put_zeros, reach_fits}
 use Rattle.joining.specs.List.{Handed, handed, read_handed, inner_marks}
 use Rattle.joining.specs.Join.{found, joined_tree}
-use Rattle.joining.specs.Answer.{taken, all_found_of, fitting, after_list_of, after_tree, outcome, filled, Answered}
+use Rattle.joining.specs.Answer.{taken, all_found_of, fitting, after_list_of, after_tree, outcome, filled, Answered, refusal_number, Told}
 use Rattle.joining.specs.Answer.Outcome.{refusal, tree}
-use Rattle.joining.specs.Writing.{Copied, whole_bytes, Finished}
+use Rattle.joining.specs.Writing.{Copied, whole_bytes}
 use Rattle.joining.specs.Spots.{Spot, place_of, statement_of, spots, tally, shares}
 use Rattle.joining.specs.Files.{In, Notes, times, Collected, found_number, Toured}
 use Rattle.joining.specs.Settle.{settled, settles, Stand, names}
 use Rattle.joining.specs.Entries.{run_list, Listed, Ended, Ends as Answers, IfAt}
 use Rattle.joining.specs.Entries.Told.{lost}
-use Rattle.joining.specs.declared.bodies.Found.{Found}
-use Rattle.joining.specs.declared.bodies.Found.TheVariants.{Latest, NoTree}
-use Rattle.joining.specs.declared.entries.Ending.{Ending}
-use Rattle.joining.specs.declared.entries.Ending.TheVariants.{At, Missing}
+use Rattle.std.specs.Prelude.{Option, Some, None, Result, Ok, Err}
+use Rattle.std.specs.Option.{ok_or}
+use Rattle.joining.specs.declared.Refusal.{Refusal}
 use Rattle.joining.proofs.FallingChains.{chain_within}
 use Rattle.joining.proofs.Listing.{at_ends, missing_ends, at_then}
 use Rattle.joining.proofs.Times.{times_append, among_times, distinct_once, distinct_not, once_distinct}
@@ -50,9 +49,24 @@ module _ (bytes l : List ℕ) (room : ℕ) where
   unfolding filled
   answered_refusal n answer size out e r = let z : room - 0 ≡ room = omega arith in rw (e, z) r
 
+-- on a refusal the slice is cleared at the end
+pub told_refusal : (bytes l : List ℕ) (room : ℕ) (r : Result ℕ Refusal) (out : List ℕ) → Told bytes l room r out → length out ≡ room → (e : Refusal) → r ≡ Err e → (answer size : ℕ) (out' : List ℕ) → (answer ≡ refusal_number e) × (size ≡ 0) → out' ≡ replicate (length out) 0 → Answered bytes l room answer size out'
+told_refusal bytes l room r out t k e w answer size out' n z = answered_refusal bytes l room (refusal_number e) answer size out' (rw w at t) (n.0, n.1, z ∙ ap (λ (y : ℕ). replicate y 0) k)
+
+-- the error in place of a value that is missing
+pub told_missing : (bytes l : List ℕ) (room : ℕ) (r : Result ℕ Refusal) (out : List ℕ) (o : Option ℕ) (k : Result ℕ Refusal) (n e y : Refusal) → k ≡ ok_or o n → k ≡ Err e → r ≡ Err y → y ≡ e → outcome bytes l room ≡ refusal (refusal_number n) → Told bytes l room r out
+told_missing bytes l room r out o k n e y w z p q u = rw (p ∙ ap Err (q ∙ go o (sym w ∙ z))) u
+  where
+    go : (o : Option ℕ) → ok_or o n ≡ Err e → e ≡ n
+    go None v = cc
+    go (Some x) v = cc
+
+pub told_tree : (bytes l : List ℕ) (room : ℕ) (r : Result ℕ Refusal) (out : List ℕ) → Told bytes l room r out → (n : ℕ) → r ≡ Ok n → Answered bytes l room 0 n out
+told_tree bytes l room r out t n w = (rw w at t)
+
 -- ---- the end
 
-module _ (bytes l : List ℕ) (room : ℕ) (X : List ℕ) (is : outcome bytes l room ≡ fitting room X) (size : ℕ) (out₂ : List ℕ) (end : size ≡ reach room 0 X) (wrote : out₂ ≡ put (replicate room 0) 0 X) (answer long : ℕ) (out₃ : List ℕ) (f : Finished out₂ size answer long out₃) where
+module _ (bytes l : List ℕ) (room : ℕ) (X : List ℕ) (is : outcome bytes l room ≡ fitting room X) (size : ℕ) (out₂ : List ℕ) (end : size ≡ reach room 0 X) (wrote : out₂ ≡ put (replicate room 0) 0 X) where
   kept : length out₂ ≡ room
   kept = ap length wrote ∙ put_length (replicate room 0) 0 X ∙ length-replicate {A = ℕ} room 0
 
@@ -62,22 +76,29 @@ module _ (bytes l : List ℕ) (room : ℕ) (X : List ℕ) (is : outcome bytes l 
     | no h ↦ omega (arith, reach_fits room 0 X (omega arith))
   ]
 
-  over : min room 32768 < length X → Answered bytes l room answer long out₃
-  over g =
-      let z : leb size (min (length out₂) 32768) ≡ false = lt-leb size (min (length out₂) 32768) (rw kept (far g)) in
-      answered_refusal bytes l room 7 answer long out₃ (is ∙ rw (lt-leb (length X) (min room 32768) g) refl)
-      (f.0 ∙ rw z refl, f.1 ∙ rw z refl, f.2 ∙ rw z (ap (λ (n : ℕ). replicate n 0) kept))
+  over : min room 32768 < length X → outcome bytes l room ≡ refusal 7
+  over g = is ∙ rw (lt-leb (length X) (min room 32768) g) refl
 
-  within : length X ≤ min room 32768 → Answered bytes l room answer long out₃
+  here : length X ≤ min room 32768 → size ≡ length X
+  here g = end ∙ reach_fits room 0 X (omega arith) ∙ omega arith
+
+  within : length X ≤ min room 32768 → Answered bytes l room 0 size out₂
   unfolding filled
   within g =
-      let here : size ≡ length X = end ∙ reach_fits room 0 X (omega arith) ∙ omega arith in
-      let z : leb size (min (length out₂) 32768) ≡ true = le-leb size (min (length out₂) 32768) (rw (kept, here) g) in
       let y : outcome bytes l room ≡ tree X = is ∙ rw (le-leb (length X) (min room 32768) g) refl in
-      rw y (f.0 ∙ rw z refl, f.1 ∙ rw z here, f.2 ∙ rw z (wrote ∙ put_zeros room X (omega arith)))
+      rw y (refl, here g, wrote ∙ put_zeros room X (omega arith))
 
-  pub finish : Answered bytes l room answer long out₃
-  finish = elim (dec_lt (min room 32768) (length X)) [ yes g ↦ over g | no g ↦ within (omega arith) ]
+  pub finish_over : min (length out₂) 32768 < size → outcome bytes l room ≡ refusal 7
+  finish_over h = elim (dec_lt (min room 32768) (length X)) [
+    | yes g ↦ over g
+    | no g ↦ (let s : size ≡ length X = here (omega arith) in absurd (omega (arith, kept)))
+  ]
+
+  pub finish : size ≤ min (length out₂) 32768 → Answered bytes l room 0 size out₂
+  finish h = elim (dec_lt (min room 32768) (length X)) [
+    | yes g ↦ (let s : min room 32768 < size = far g in absurd (omega (arith, kept)))
+    | no g ↦ within (omega arith)
+  ]
 
 -- ---- the tree
 
@@ -240,28 +261,33 @@ module _ (bytes l : List ℕ) (room : ℕ) (t : TreeGot bytes) where
               q L.excluded L.last.bytes L.last.cut
               ∙ ap (λ (n : Node). encode (joined_tree T n H)) (sym p)
 
-          pub joined_out : (out₁ : List ℕ) → out₁ ≡ replicate room 0 → (size : ℕ) (out₂ : List ℕ) → Copied out₁ 0 (whole_bytes bytes l ends seen₂ more' held' q) size out₂ → (answer long : ℕ) (out₃ : List ℕ) → Finished out₂ size answer long out₃ → Answered bytes l room answer long out₃
-          joined_out out₁ clear size out₂ k answer long out₃ f =
-              let sized : length out₁ ≡ room = ap length clear ∙ length-replicate {A = ℕ} room 0 in
-              finish bytes l room (encode (joined_tree T t.tree H)) found_all size out₂ (k.0 ∙ (λ i. reach (sized i) 0 (bytes_are i))) (k.1 ∙ (λ i. put (clear i) 0 (bytes_are i))) answer long out₃ f
+          module _ (out₁ : List ℕ) (clear : out₁ ≡ replicate room 0) (size : ℕ) (out₂ : List ℕ) (k : Copied out₁ 0 (whole_bytes bytes l ends seen₂ more' held' q) size out₂) where
+            sized : length out₁ ≡ room
+            sized = ap length clear ∙ length-replicate {A = ℕ} room 0
+
+            pub joined_over : min (length out₂) 32768 < size → outcome bytes l room ≡ refusal 7
+            joined_over = finish_over bytes l room (encode (joined_tree T t.tree H)) found_all size out₂ (k.0 ∙ (λ i. reach (sized i) 0 (bytes_are i))) (k.1 ∙ (λ i. put (clear i) 0 (bytes_are i)))
+
+            pub joined_out : size ≤ min (length out₂) 32768 → Answered bytes l room 0 size out₂
+            joined_out = finish bytes l room (encode (joined_tree T t.tree H)) found_all size out₂ (k.0 ∙ (λ i. reach (sized i) 0 (bytes_are i))) (k.1 ∙ (λ i. put (clear i) 0 (bytes_are i)))
 
 -- ---- by what the code calls
 
 -- whether the bytes are a tree, by the number
-is_tree : (b : Bool) → found_number (Latest 0) ≡ cond b 0 3 → b ≡ true
+is_tree : (b : Bool) → found_number (Some 0) ≡ cond b 0 3 → b ≡ true
 is_tree true e = refl
 is_tree false e = absurd (omega arith)
 
-is_none : (b : Bool) → found_number NoTree ≡ cond b 0 3 → b ≡ false
+is_none : (b : Bool) → found_number None ≡ cond b 0 3 → b ≡ false
 is_none true e = absurd (omega arith)
 is_none false e = refl
 
-module _ (bytes l : List ℕ) (hb : (i : ℕ) → get_or bytes i 0 < 256) (hl : (i : ℕ) → get_or l i 0 < 256) (room : ℕ) (seen₁ earlier₁ holds₁ before₁ : List ℕ) (f : Found) (t : Toured bytes seen₁ earlier₁ holds₁ before₁ f) where
-  pub way_3 : f ≡ NoTree → (answer size : ℕ) (out : List ℕ) → (answer ≡ 3) × (size ≡ 0) × (out ≡ replicate room 0) → Answered bytes l room answer size out
-  way_3 y answer size out r = answered_refusal bytes l room 3 answer size out (no_tree_lem bytes l room (is_none (is_rewritten bytes) (rw y at t).number)) r
+module _ (bytes l : List ℕ) (hb : (i : ℕ) → get_or bytes i 0 < 256) (hl : (i : ℕ) → get_or l i 0 < 256) (room : ℕ) (seen₁ earlier₁ holds₁ before₁ : List ℕ) (f : Option ℕ) (t : Toured bytes seen₁ earlier₁ holds₁ before₁ f) where
+  pub way_3 : f ≡ None → outcome bytes l room ≡ refusal 3
+  way_3 y = no_tree_lem bytes l room (is_none (is_rewritten bytes) (rw y at t).number)
 
-  module _ (latest : ℕ) (y : f ≡ Latest latest) (r : Ending) (seen₂ ends : List ℕ) (ans : (met : List ℕ) → Notes seen₁ met → Answers r seen₂ (run_list l met) × IfAt r (Listed l ends (wide_at l 0) 2)) where
-    told_of : Toured bytes seen₁ earlier₁ holds₁ before₁ (Latest latest)
+  module _ (latest : ℕ) (y : f ≡ Some latest) (r : Option ℕ) (seen₂ ends : List ℕ) (ans : (met : List ℕ) → Notes seen₁ met → Answers r seen₂ (run_list l met) × IfAt r (Listed l ends (wide_at l 0) 2)) where
+    told_of : Toured bytes seen₁ earlier₁ holds₁ before₁ (Some latest)
     told_of = rw y at t
 
     abbrev tg : TreeGot bytes
@@ -270,11 +296,10 @@ module _ (bytes l : List ℕ) (hb : (i : ℕ) → get_or bytes i 0 < 256) (hl : 
     abbrev cg : Collected bytes seen₁ earlier₁ holds₁ before₁ latest tg.tree
     cg = told_of.values tg.tree tg.end tg.next tg.raw
 
-    pub way_12 : r ≡ Missing → (answer size : ℕ) (out : List ℕ) → (answer ≡ 12) × (size ≡ 0) × (out ≡ replicate room 0) → Answered bytes l room answer size out
-    way_12 m answer size out x =
-        answered_refusal bytes l room 12 answer size out (no_list_lem bytes l room tg hl seen₁ earlier₁ holds₁ before₁ latest cg (missing_ends r seen₂ (run_list l cg.met) m (ans cg.met cg.known).0)) x
+    pub way_12 : r ≡ None → outcome bytes l room ≡ refusal 12
+    way_12 m = no_list_lem bytes l room tg hl seen₁ earlier₁ holds₁ before₁ latest cg (missing_ends r seen₂ (run_list l cg.met) m (ans cg.met cg.known).0)
 
-    module _ (q : ℕ) (m : r ≡ At q) (more held : List ℕ) (lm : 32768 ≤ length more) (lh : 32768 ≤ length held) (mz : (p : ℕ) → get_or more p 0 ≡ 0) (hz : (p : ℕ) → get_or held p 0 ≡ 0)
+    module _ (q : ℕ) (m : r ≡ Some q) (more held : List ℕ) (lm : 32768 ≤ length more) (lh : 32768 ≤ length held) (mz : (p : ℕ) → get_or more p 0 ≡ 0) (hz : (p : ℕ) → get_or held p 0 ≡ 0)
         (every : Bool) (more' held' : List ℕ) (w : settled every more' held' ≡ settles bytes l earlier₁ holds₁ before₁ latest ends (wide_at l 0) 2 more held) where
       abbrev eg : Ended seen₂ q (run_list l cg.met)
       eg = at_ends r q seen₂ (run_list l cg.met) m (ans cg.met cg.known).0
@@ -282,10 +307,12 @@ module _ (bytes l : List ℕ) (hb : (i : ℕ) → get_or bytes i 0 < 256) (hl : 
       abbrev lg : Listed l ends (wide_at l 0) 2
       lg = at_then r q (Listed l ends (wide_at l 0) 2) m (ans cg.met cg.known).1
 
-      pub way_13 : every ≡ false → (answer size : ℕ) (out : List ℕ) → (answer ≡ 13) × (size ≡ 0) × (out ≡ replicate room 0) → Answered bytes l room answer size out
-      way_13 z answer size out x =
-          answered_refusal bytes l room 13 answer size out (not_found bytes l room tg hl seen₁ earlier₁ holds₁ before₁ latest cg seen₂ q eg ends more held lg lm lh mz hz every more' held' w z) x
+      pub way_13 : every ≡ false → outcome bytes l room ≡ refusal 13
+      way_13 z = not_found bytes l room tg hl seen₁ earlier₁ holds₁ before₁ latest cg seen₂ q eg ends more held lg lm lh mz hz every more' held' w z
 
-      pub way_0 : every ≡ true → (out₁ : List ℕ) → out₁ ≡ replicate room 0 → (size : ℕ) (out₂ : List ℕ) → (length bytes ≤ 32768 → Copied out₁ 0 (whole_bytes bytes l ends seen₂ more' held' q) size out₂) → (answer long : ℕ) (out₃ : List ℕ) → Finished out₂ size answer long out₃ → Answered bytes l room answer long out₃
-      way_0 z out₁ clear size out₂ k answer long out₃ f =
-          joined_out bytes l room tg hl seen₁ earlier₁ holds₁ before₁ latest cg seen₂ q eg ends more held lg lm lh mz hz every more' held' w z out₁ clear size out₂ (k tg.short) answer long out₃ f
+      module _ (z : every ≡ true) (out₁ : List ℕ) (clear : out₁ ≡ replicate room 0) (size : ℕ) (out₂ : List ℕ) (k : length bytes ≤ 32768 → Copied out₁ 0 (whole_bytes bytes l ends seen₂ more' held' q) size out₂) where
+        pub way_7 : min (length out₂) 32768 < size → outcome bytes l room ≡ refusal 7
+        way_7 = joined_over bytes l room tg hl seen₁ earlier₁ holds₁ before₁ latest cg seen₂ q eg ends more held lg lm lh mz hz every more' held' w z out₁ clear size out₂ (k tg.short)
+
+        pub way_0 : size ≤ min (length out₂) 32768 → Answered bytes l room 0 size out₂
+        way_0 = joined_out bytes l room tg hl seen₁ earlier₁ holds₁ before₁ latest cg seen₂ q eg ends more held lg lm lh mz hz every more' held' w z out₁ clear size out₂ (k tg.short)

@@ -7,14 +7,19 @@ use Prim.Native.Nat.{ℕ, zero, suc, ◌+◌, ◌-◌, ◌%◌, ◌<◌, ◌≤�
 use native.Mathlib.Omega.{arith}
 use native.Mathlib.Decide.{dec_lt}
 use lib.Dec.{eqb, ltb}
-use lib.ListN.{length, get_or, set, take, drop, replicate, length-set, drop_of_length-le}
+use lib.ListN.{length, get_or, set, take, drop, length-set, drop_of_length-le}
 use lib.Seq.{drop-cons}
-use borrow.Author.Tests.{eqb-true, eq-eqb, ne_eqb, lt-ltb, le-ltb, lt-leb, le-leb}
+use borrow.Author.Tests.{eqb-true, eq-eqb, ne_eqb, lt-ltb, le-ltb}
 use Rattle.tree.specs.Tree.{wide_bytes}
 use Rattle.tree.specs.Read.{byte_at, wide_at}
-use Rattle.drawing.specs.Pen.{put, reach}
-use Rattle.drawing.proofs.DrawingWritten.{Put, Wide, put_length, put_two, reach_two, put_in}
-use Rattle.joining.specs.Writing.{Copied, part, declared, free_from, free_after, var_bytes, var_last, vars_bytes, vars_last, before_bytes, before_last, step_bytes, step_last, step_skips, rest_bytes, Calm, Quiet, head_bytes, head_last, whole_bytes, Finished}
+use Rattle.drawing.specs.Pen.{next, put, reach}
+use borrow.Rule.Slice.PartMut.{put_mid}
+use Rattle.drawing.proofs.DrawingWritten.{Put, Wide, put_length, put_two, reach_two, next_in_lem}
+use Rattle.drawing.proofs.DrawingEntry.{reach_fits}
+use Rattle.std.proofs.lemmas.List.{length-take, length-drop}
+use Rattle.std.proofs.lemmas.List.Edits.{sets, sets-eq}
+use Rattle.std.proofs.lemmas.Grind.{common_steps}
+use Rattle.joining.specs.Writing.{Copied, part, declared, free_from, free_after, var_bytes, var_last, vars_bytes, vars_last, before_bytes, before_last, step_bytes, step_last, step_skips, rest_bytes, Calm, Quiet, head_bytes, head_last, whole_bytes}
 
 -- ---- one after the other
 
@@ -87,10 +92,25 @@ module _ (l₀ : List ℕ) (at : ℕ) (from : List ℕ) (start stop : ℕ) where
       let none : part i stop from ≡ [] = part_none from i stop end e h in
       (ap (reach (length l) p) (sym none) ∙ c.ends, ap (put l p) (sym none) ∙ c.bytes)
 
-pub block_next : (l₀ : List ℕ) (at : ℕ) (from : List ℕ) (start stop : ℕ) (l : List ℕ) (p i : ℕ) → Copying l₀ at from start stop l p i × (p + (stop - i) ≤ length l) × (stop ≡ min stop (length from)) → i < stop
-    → Copying l₀ at from start stop (set l p (get_or from i 0)) (p + 1) (i + 1) × (p + 1 + (stop - (i + 1)) ≤ length (set l p (get_or from i 0))) × (stop ≡ min stop (length from))
-block_next l₀ at from start stop l p i (c, r, e) h =
-    (copying_next l₀ at from start stop l p i stop c e h (p + 1) (set l p (get_or from i 0)) (put_in l p (get_or from i 0) (omega arith)), omega (arith, length-set l p (get_or from i 0)), e)
+part_length : (l : List ℕ) (i stop : ℕ) → stop ≤ length l → length (part i stop l) ≡ stop - i
+unfolding part
+part_length l i stop h = omega (arith, length-take (stop - i) (drop i l), length-drop i l)
+
+-- where there is room for them all they stand at once
+put_sets : (l : List ℕ) (at : ℕ) (xs : List ℕ) → at + length xs ≤ length l → put l at xs ≡ sets l at xs
+unfolding put
+put_sets l at [] h = refl
+put_sets l at (x ∷ xs) h =
+    let n : next (length l) at ≡ suc at = next_in_lem (length l) at (omega arith) in
+    rw n (put_sets (set l at x) (suc at) xs (omega (arith, length-set l at x)))
+
+put_whole : (l : List ℕ) (at : ℕ) (xs : List ℕ) → at + length xs ≤ length l → put l at xs ≡ put_mid at (length xs) l xs
+put_whole l at xs h = put_sets l at xs h ∙ sets-eq xs l at h ∙ grind (arith, common_steps)
+
+pub block_written : (l : List ℕ) (at : ℕ) (from : List ℕ) (start stop : ℕ) → start ≤ stop → stop ≤ length from → at + (stop - start) ≤ length l → (k : ℕ) → k ≡ stop - start → (xs : List ℕ) → xs ≡ part start stop from → Copied l at (part start stop from) (at + (stop - start)) (put_mid at k l xs)
+block_written l at from start stop h g r k d xs e =
+    let n : length (part start stop from) ≡ stop - start = part_length from start stop g in
+    (sym (reach_fits (length l) at (part start stop from) (omega arith) ∙ omega arith), rw (d, e, ← n) (sym (put_whole l at (part start stop from) (omega arith))))
 
 -- ---- a Declaration
 
@@ -155,18 +175,17 @@ module _ (list ends seen : List ℕ) (mark : ℕ) (l₀ : List ℕ) (p₀ n₀ l
   pub telling_start : (left : ℕ) → left ≡ n₀ → Telling l₀ p₀ last₀ 2 left
   telling_start left e = rw e (record { size = refl; near = omega arith; stops = refl; bytes = refl; given = refl })
 
-  pub telling_next : (l : List ℕ) (p last at left : ℕ) → Telling l p last at left → 0 < left → (end : ℕ) → end ≡ get_or ends at 0 → end < 65536 → (q more : ℕ) (k : List ℕ) → Copied l p (var_bytes list seen mark at end last) q k × (more ≡ var_last list seen mark at last) → Telling k q more end (left - 1)
+  pub telling_next : (l : List ℕ) (p last at left less : ℕ) → Telling l p last at left → left ≡ suc less → (end : ℕ) → end ≡ get_or ends at 0 → end < 65536 → (q more : ℕ) (k : List ℕ) → Copied l p (var_bytes list seen mark at end last) q k × (more ≡ var_last list seen mark at last) → Telling k q more end less
   unfolding vars_bytes vars_last
-  telling_next l p last at zero t h end e f q more k w = absurd (omega arith)
-  telling_next l p last at (suc left) t h end e f q more k w =
-      let d : suc left - 1 ≡ left = omega arith in
+  telling_next l p last at left less u d end e f q more k w =
+      let t : Telling l p last at (suc less) = rw d at u in
       let same : length k ≡ length l = ap length w.0.1 ∙ put_length l p (var_bytes list seen mark at end last) in
       record {
         size = same ∙ t.size;
         near = f;
-        stops = rw (d, same, w.0.0, w.1) (sym (reach_two (length l) p (var_bytes list seen mark at end last) (vars_bytes list ends seen mark left end (var_last list seen mark at last))) ∙ (rw (← e) at t.stops));
-        bytes = rw (d, w.0.0, w.0.1, w.1) (sym (put_two l p (var_bytes list seen mark at end last) (vars_bytes list ends seen mark left end (var_last list seen mark at last))) ∙ (rw (← e) at t.bytes));
-        given = rw (d, w.1) (rw (← e) at t.given);
+        stops = rw (same, w.0.0, w.1) (sym (reach_two (length l) p (var_bytes list seen mark at end last) (vars_bytes list ends seen mark less end (var_last list seen mark at last))) ∙ (rw (← e) at t.stops));
+        bytes = rw (w.0.0, w.0.1, w.1) (sym (put_two l p (var_bytes list seen mark at end last) (vars_bytes list ends seen mark less end (var_last list seen mark at last))) ∙ (rw (← e) at t.bytes));
+        given = rw w.1 (rw (← e) at t.given);
       }
 
   pub telling_ends : (l : List ℕ) (p last at left : ℕ) → Telling l p last at left → left ≤ 0 → Copied l₀ p₀ (vars_bytes list ends seen mark n₀ 2 last₀) p l × (last ≡ vars_last list ends seen mark n₀ 2 last₀)
@@ -337,17 +356,3 @@ pub whole_written : (tree list ends seen more held : List ℕ) (excluded : ℕ) 
 unfolding whole_bytes
 whole_written tree list ends seen more held excluded l a last m q k h r =
     copied_then l 0 (head_bytes tree list seen more excluded) (rest_bytes tree list ends seen more held (length tree - 4) false 4 (head_last list seen excluded)) a m q k h.0 (rw h.1 at r)
-
--- ---- the end
-
-finished_over : (l : List ℕ) (n a t : ℕ) (l' : List ℕ) → min (length l) 32768 < n → (a ≡ 7) × (t ≡ 0) × (l' ≡ replicate (length l) 0) → Finished l n a t l'
-finished_over l n a t l' h e = rw (lt-leb n (min (length l) 32768) h) e
-
-pub finished_long : (l : List ℕ) (n a t : ℕ) (l' : List ℕ) → 32768 < n → (a ≡ 7) × (t ≡ 0) × (l' ≡ replicate (length l) 0) → Finished l n a t l'
-finished_long l n a t l' h e = finished_over l n a t l' (omega arith) e
-
-pub finished_short : (l : List ℕ) (n a t : ℕ) (l' : List ℕ) → length l < n → (a ≡ 7) × (t ≡ 0) × (l' ≡ replicate (length l) 0) → Finished l n a t l'
-finished_short l n a t l' h e = finished_over l n a t l' (omega arith) e
-
-pub finished_in : (l : List ℕ) (n : ℕ) → n ≤ 32768 → n ≤ length l → Finished l n 0 n l
-finished_in l n h g = rw (le-leb n (min (length l) 32768) (omega arith)) (refl, refl, refl)

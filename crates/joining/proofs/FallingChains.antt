@@ -12,7 +12,8 @@ use lib.Seq.{set_out, get_or-set_same, get_or-set_other}
 use borrow.Author.Tests.{lt-ltb, le-ltb, eq-eqb, ne_eqb, ltb-true, eqb-true}
 use Rattle.tree.specs.Read.{wide_at}
 use Rattle.tree.proofs.Sound.{never}
-use Rattle.joining.specs.Tables.{stored, backward, chain_of, chain, nowhere, among_statements, among_lists, searched}
+use Rattle.joining.specs.Tables.{stored, backward, chain_of, chain, place, among_statements, among_lists, searched}
+use Rattle.std.specs.Prelude.{Option, Some, None}
 use Rattle.joining.specs.declared.search.Place.{Place}
 use Rattle.joining.specs.Files.{In}
 
@@ -116,45 +117,40 @@ chain_within l i x h = chain_in l i i x h
 
 -- ---- the search: what the rest of it gives is the answer, v
 
-module _ (tree earlier holds before : List ℕ) (mark : ℕ) (v : Place) where
-  pub record Outer (place : Place) (p : ℕ) : Type 0 where
-    pub none : place ≡ nowhere
-    pub will : among_lists tree mark holds before (chain earlier p) ≡ v
+module _ (tree earlier holds before : List ℕ) (mark : ℕ) (v : Option Place) where
+  abbrev pub Outer : ℕ → Type 0
+  Outer p = among_lists tree mark holds before (chain earlier p) ≡ v
 
-  pub record Inner (place : Place) (p s : ℕ) : Type 0 where
-    pub none : place ≡ nowhere
-    pub will : among_statements tree mark p (chain before s) (among_lists tree mark holds before (chain earlier (backward earlier p))) ≡ v
+  abbrev pub Inner : ℕ → ℕ → Type 0
+  Inner p s = among_statements tree mark p (chain before s) (among_lists tree mark holds before (chain earlier (backward earlier p))) ≡ v
 
-  pub outer_enters : (place : Place) (p s : ℕ) → Outer place p → 0 < p → s ≡ get_or holds p 0 → Inner place p s
+  pub outer_enters : (p s : ℕ) → Outer p → 0 < p → s ≡ get_or holds p 0 → Inner p s
   unfolding among_lists
-  outer_enters place p s o h e = record {
-    none = o.none;
-    will = rw e (ap (among_lists tree mark holds before) (sym (chain_step earlier p h)) ∙ o.will);
-  }
+  outer_enters p s o h e = rw e (ap (among_lists tree mark holds before) (sym (chain_step earlier p h)) ∙ o)
 
-  pub outer_ends : (place : Place) (p : ℕ) → Outer place p → p ≤ 0 → place ≡ v
+  pub outer_ends : (p : ℕ) → Outer p → p ≤ 0 → None ≡ v
   unfolding among_lists
-  outer_ends place p o h = o.none ∙ ap (among_lists tree mark holds before) (sym (chain_end earlier p h)) ∙ o.will
+  outer_ends p o h = ap (among_lists tree mark holds before) (sym (chain_end earlier p h)) ∙ o
 
-  pub inner_found : (place : Place) (p s : ℕ) → Inner place p s → 0 < s → (w : ℕ) → w ≡ wide_at tree (s + 2) → w ≡ mark → record { list = p; statement = s } ≡ v
+  pub inner_found : (p s : ℕ) → Inner p s → 0 < s → (w : ℕ) → w ≡ wide_at tree (s + 2) → w ≡ mark → Some (place p s) ≡ v
   unfolding among_statements
-  inner_found place p s i h w is e =
+  inner_found p s i h w is e =
       let same : eqb (wide_at tree (s + 2)) mark ≡ true = eq-eqb (wide_at tree (s + 2)) mark (sym is ∙ e) in
-      (rw (chain_step before s h, same) at i.will)
+      (rw (chain_step before s h, same) at i)
 
-  pub inner_next : (place : Place) (p s t : ℕ) → Inner place p s → 0 < s → (w : ℕ) → w ≡ wide_at tree (s + 2) → (w ≡ mark → ⊥) → t ≡ backward before s → Inner place p t
+  pub inner_next : (p s t : ℕ) → Inner p s → 0 < s → (w : ℕ) → w ≡ wide_at tree (s + 2) → (w ≡ mark → ⊥) → t ≡ backward before s → Inner p t
   unfolding among_statements
-  inner_next place p s t i h w is d e =
+  inner_next p s t i h w is d e =
       let other : eqb (wide_at tree (s + 2)) mark ≡ false = ne_eqb (wide_at tree (s + 2)) mark (λ x. d (is ∙ x)) in
-      record { none = i.none; will = rw e (rw (chain_step before s h, other) at i.will) }
+      rw e (rw (chain_step before s h, other) at i)
 
-  pub inner_ends : (place : Place) (p s q : ℕ) → Inner place p s → s ≤ 0 → q ≡ backward earlier p → Outer place q
+  pub inner_ends : (p s q : ℕ) → Inner p s → s ≤ 0 → q ≡ backward earlier p → Outer q
   unfolding among_statements
-  inner_ends place p s q i h e = record { none = i.none; will = rw e (rw (chain_end before s h) at i.will) }
+  inner_ends p s q i h e = rw e (rw (chain_end before s h) at i)
 
-pub outer_start : (tree earlier holds before : List ℕ) (mark latest : ℕ) → Outer tree earlier holds before mark (searched tree earlier holds before mark latest) nowhere latest
+pub outer_start : (tree earlier holds before : List ℕ) (mark latest : ℕ) → Outer tree earlier holds before mark (searched tree earlier holds before mark latest) latest
 unfolding searched
-outer_start tree earlier holds before mark latest = record { none = refl; will = refl }
+outer_start tree earlier holds before mark latest = refl
 
 -- ---- search-ends: it ends at a statement of a container that has the mark, or none has it
 
@@ -169,16 +165,16 @@ module _ (tree holds before : List ℕ) (mark : ℕ) where
   abbrev pub Lacks : List ℕ → Type 0
   Lacks ps = (p s : ℕ) → In p ps → In s (chain before (get_or holds p 0)) → wide_at tree (s + 2) ≡ mark → ⊥
 
-  pub data Ended (ps : List ℕ) (r : Place) : Type 0 where
-    found : Has ps r → Ended ps r
-    lost : r ≡ nowhere → Lacks ps → Ended ps r
+  pub data Ended (ps : List ℕ) (r : Option Place) : Type 0 where
+    found : (p : Place) → r ≡ Some p → Has ps p → Ended ps r
+    lost : r ≡ None → Lacks ps → Ended ps r
 
   -- the same of the statements of one list
-  data Passed (p : ℕ) (ss : List ℕ) (rest : Place) : Type 0 where
-    one : (s : ℕ) → In s ss → wide_at tree (s + 2) ≡ mark → among_statements tree mark p ss rest ≡ record { list = p; statement = s } → Passed p ss rest
+  data Passed (p : ℕ) (ss : List ℕ) (rest : Option Place) : Type 0 where
+    one : (s : ℕ) → In s ss → wide_at tree (s + 2) ≡ mark → among_statements tree mark p ss rest ≡ Some (place p s) → Passed p ss rest
     none : ((s : ℕ) → In s ss → wide_at tree (s + 2) ≡ mark → ⊥) → among_statements tree mark p ss rest ≡ rest → Passed p ss rest
 
-  statements_end : (p : ℕ) (ss : List ℕ) (rest : Place) → Passed p ss rest
+  statements_end : (p : ℕ) (ss : List ℕ) (rest : Option Place) → Passed p ss rest
   unfolding among_statements
   statements_end p [] rest = none (λ s i e. absurd i) refl
   statements_end p (s ∷ ss) rest = go (eqb (wide_at tree (s + 2)) mark) refl (statements_end p ss rest)
@@ -202,9 +198,9 @@ module _ (tree holds before : List ℕ) (mark : ℕ) where
       neither n f q s (inr i) j m = f q s i j m
 
       go : Passed p (chain before (get_or holds p 0)) (among_lists tree mark holds before ps) → Ended ps (among_lists tree mark holds before ps) → Ended (p ∷ ps) (among_statements tree mark p (chain before (get_or holds p 0)) (among_lists tree mark holds before ps))
-      go (one s i m w) r = rw w (found (record { within = inl refl; stands = i; marked = m }))
-      go (none n w) (found h) = rw w (found (record { within = inr h.within; stands = h.stands; marked = h.marked }))
-      go (none n w) (lost e f) = rw w (lost e (neither n f))
+      go (one s i m w) r = found (place p s) w (record { within = inl refl; stands = i; marked = m })
+      go (none n w) (found r e h) = found r (w ∙ e) (record { within = inr h.within; stands = h.stands; marked = h.marked })
+      go (none n w) (lost e f) = lost (w ∙ e) (neither n f)
 
   pub search_ends : (earlier : List ℕ) (latest : ℕ) → Ended (chain earlier latest) (searched tree earlier holds before mark latest)
   unfolding searched

@@ -10,10 +10,10 @@ use lib.Dec.{eqb, ltb}
 use lib.ListN.{length, get_or, set, take, drop, length-set, length-take, length-drop}
 use lib.Seq.{get_or-set_same, get_or-set_other}
 use borrow.Author.Tests.{eq-eqb, ne_eqb, lt-ltb, le-ltb, ltb-true, eqb-true}
-use Rattle.tree.specs.Grammar.{among}
 use Rattle.tree.specs.Read.{byte_at, wide_at}
 use Rattle.rewritten.specs.declared.step.Event as told
 use Rattle.rewritten.specs.declared.step.Event.TheVariants.{Begins, Ends, Opens, Closes, Hole, Text, Byte, Mark, Number}
+use mir.Val.{bool_byte}
 use Rattle.joining.specs.Join.{is_container}
 use Rattle.joining.specs.Tables.{stored, chain}
 use Rattle.joining.specs.Spots.{Spot, spot}
@@ -26,29 +26,9 @@ use Rattle.joining.proofs.FallingChains.{put_in, chain_set, chain_add, chain_wit
 
 -- ---- the steps of the code
 
-pub container_1 : (k : ℕ) → k ≡ 1 → ◌≡◌ {A = ℕ} 1 (cond (is_container k) 1 0)
-unfolding among
-container_1 k e = rw e refl
-
-pub container_2 : (k : ℕ) → k ≡ 2 → ◌≡◌ {A = ℕ} 1 (cond (is_container k) 1 0)
-unfolding among
-container_2 k e = rw e refl
-
-pub container_16 : (k : ℕ) → k ≡ 16 → ◌≡◌ {A = ℕ} 1 (cond (is_container k) 1 0)
-unfolding among
-container_16 k e = rw e refl
-
-pub container_42 : (k : ℕ) → k ≡ 42 → ◌≡◌ {A = ℕ} 1 (cond (is_container k) 1 0)
-unfolding among
-container_42 k e = rw e refl
-
-pub container_44 : (k : ℕ) → k ≡ 44 → ◌≡◌ {A = ℕ} 1 (cond (is_container k) 1 0)
-unfolding among
-container_44 k e = rw e refl
-
-pub container_not : (k : ℕ) → (k ≡ 1 → ⊥) → (k ≡ 2 → ⊥) → (k ≡ 16 → ⊥) → (k ≡ 42 → ⊥) → (k ≡ 44 → ⊥) → ◌≡◌ {A = ℕ} 0 (cond (is_container k) 1 0)
-unfolding among
-container_not k a b c d e = rw (ne_eqb 1 k (λ w. a (sym w)), ne_eqb 2 k (λ w. b (sym w)), ne_eqb 16 k (λ w. c (sym w)), ne_eqb 42 k (λ w. d (sym w)), ne_eqb 44 k (λ w. e (sym w))) refl
+pub flag_number : (b c : Bool) (n : ℕ) → n ≡ bool_byte b → b ≡ c → n ≡ cond c 1 0
+flag_number true c n e w = rw (← w) e
+flag_number false c n e w = rw (← w) e
 
 pub begun_item : (l : List ℕ) (deep at n : ℕ) → n ≡ get_or l deep 0 → 1 < n → at ≡ cond (ltb 1 (get_or l deep 0)) at 0
 begun_item l deep at n e h = rw (← e, lt-ltb 1 n h) refl

@@ -32,8 +32,8 @@ use Rattle.joining.specs.Tables.{stored}
 use Rattle.joining.specs.Files.{Notes}
 use Rattle.joining.specs.Entries.{Told, tells, telling, onward, run_declarators, run_entries, run_head, run_list, Listed, Ended, ending_number, told_number, Ends as Answers, Within, IfAt}
 use Rattle.joining.specs.Entries.Told.{lost, told}
-use Rattle.joining.specs.declared.entries.Ending.{Ending}
-use Rattle.joining.specs.declared.entries.Ending.TheVariants.{At, Missing}
+use Rattle.std.specs.Prelude as prelude
+use Rattle.std.specs.Prelude.{Some, None}
 use Rattle.joining.proofs.FallingChains.{put_in}
 use Rattle.joining.proofs.TablesFilled.{knows, notes}
 
@@ -208,11 +208,11 @@ module _ (l fs₀ seen₀ ends₀ fs seen ends : List ℕ) (left at : ℕ) (g : 
         let e : run_declarators l (at + 2) s.met ≡ lost = d s.met s.known (rw g.same₁ a) (omega arith) in
         sym s.will ∙ step_first left some s.met ∙ rw (← w, lt-ltb n 65536 (omega arith), e) refl
 
-    pub listing_next : (end : ℕ) (fs' seen' ends' : List ℕ) → length fs' ≡ length fs → length seen' ≡ length seen → (at + 2 + 2 ≤ end) × (end ≤ length l) → ((met : List ℕ) → Notes seen met → 16384 ≤ length fs → length l ≤ 32768 → Ended seen' end (run_declarators l (at + 2) met)) → ends' ≡ stored ends at end → length ends' ≡ length ends → Listing l fs₀ seen₀ ends₀ fs' seen' ends' (left - 1) end
-    listing_next end fs' seen' ends' k₁ k₂ bounds d put k₃ =
+    pub listing_next : (end : ℕ) (fs' seen' ends' : List ℕ) → length fs' ≡ length fs → length seen' ≡ length seen → (at + 2 + 2 ≤ end) × (end ≤ length l) → ((met : List ℕ) → Notes seen met → 16384 ≤ length fs → length l ≤ 32768 → Ended seen' end (run_declarators l (at + 2) met)) → ends' ≡ stored ends at end → length ends' ≡ length ends → (less : ℕ) → less ≡ left - 1 → Listing l fs₀ seen₀ ends₀ fs' seen' ends' less end
+    listing_next end fs' seen' ends' k₁ k₂ bounds d put k₃ less z =
         let lo : at + 2 + 2 ≤ end = bounds.0 in
         let hi : end ≤ length l = bounds.1 in
-        record {
+        rw z (record {
           same₁ = k₁ ∙ g.same₁;
           same₂ = k₂ ∙ g.same₂;
           same₃ = k₃ ∙ g.same₃;
@@ -232,7 +232,7 @@ module _ (l fs₀ seen₀ ends₀ fs seen ends : List ℕ) (left at : ℕ) (g : 
                     (λ x below. agree x (omega arith) ∙ ap (λ (z : List ℕ). get_or z x 0) same ∙ get_or-set_other ends at x end 0 (λ y. omega arith))
                     (whole left t (agree at (omega arith) ∙ ap (λ (z : List ℕ). get_or z at 0) same ∙ get_or-set_same ends at end 0 there) (told_end l (at + 2) s.met e.met end e.is) some f);
               };
-        }
+        })
       where
         whole : (n : ℕ) (t : List ℕ) → get_or t at 0 ≡ end → ((ds : Items) (q k : ℕ) → read_declarators l (at + 2) 1 ≡ got ds q k → end ≡ q) → 0 < n → Listed l t (n - 1) end → Listed l t n at
         whole zero t is so z f = absurd (omega arith)
@@ -271,24 +271,33 @@ module _ (l : List ℕ) where
 
 -- ---- an answer by its number and values
 
-pub answers_at : {q : ℕ} {seen : List ℕ} {v : Told} → Ended seen q v → Answers (At q) seen v
+pub answers_at : {q : ℕ} {seen : List ℕ} {v : Told} → Ended seen q v → Answers (Some q) seen v
 answers_at e = record { number = sym (ap told_number e.is); values = e }
 
-pub answers_lost : {seen : List ℕ} {v : Told} → v ≡ lost → Answers Missing seen v
+pub answers_lost : {seen : List ℕ} {v : Told} → v ≡ lost → Answers None seen v
 answers_lost e = record { number = sym (ap told_number e); values = tt }
 
-pub at_within : (r : Ending) (q low size : ℕ) → r ≡ At q → Within r low size → (low ≤ q) × (q ≤ size)
+pub none_within : (r : prelude.Option ℕ) (low size : ℕ) → r ≡ None → Within r low size
+none_within r low size e = rw e tt
+
+pub none_answers : (r : prelude.Option ℕ) (seen : List ℕ) (v : Told) → r ≡ None → v ≡ lost → Answers r seen v
+none_answers r seen v e w = rw e (answers_lost w)
+
+pub none_if : (r : prelude.Option ℕ) (A : Type 0) → r ≡ None → IfAt r A
+none_if r A e = rw e tt
+
+pub at_within : (r : prelude.Option ℕ) (q low size : ℕ) → r ≡ Some q → Within r low size → (low ≤ q) × (q ≤ size)
 at_within r q low size e w = rw e at w
 
-pub at_ends : (r : Ending) (q : ℕ) (seen : List ℕ) (v : Told) → r ≡ At q → Answers r seen v → Ended seen q v
+pub at_ends : (r : prelude.Option ℕ) (q : ℕ) (seen : List ℕ) (v : Told) → r ≡ Some q → Answers r seen v → Ended seen q v
 at_ends r q seen v e w = (rw e at w).values
 
-pub missing_ends : (r : Ending) (seen : List ℕ) (v : Told) → r ≡ Missing → Answers r seen v → v ≡ lost
+pub missing_ends : (r : prelude.Option ℕ) (seen : List ℕ) (v : Told) → r ≡ None → Answers r seen v → v ≡ lost
 missing_ends r seen v e w = go v (rw e at w).number
   where
-    go : (v : Told) → ending_number Missing ≡ told_number v → v ≡ lost
+    go : (v : Told) → ending_number None ≡ told_number v → v ≡ lost
     go lost z = refl
     go (told q m) z = absurd (omega arith)
 
-pub at_then : (r : Ending) (q : ℕ) (A : Type 0) → r ≡ At q → IfAt r A → A
+pub at_then : (r : prelude.Option ℕ) (q : ℕ) (A : Type 0) → r ≡ Some q → IfAt r A → A
 at_then r q A e w = rw e at w

@@ -1,6 +1,6 @@
 -- Each entry to its statement: the tables count the entries of each list and of each statement.
 -- Assumes nothing.
-use Prim.Native.Nat.{ℕ, zero, suc, ◌+◌, ◌-◌, ◌<◌, ◌≤◌}
+use Prim.Native.Nat.{ℕ, zero, suc, ◌+◌, ◌<◌, ◌≤◌}
 use mathlib.Core.Path.{◌≡◌, refl, sym, ap, ◌∙◌}
 use mathlib.Core.List.{List, [], ◌∷◌, ◌++◌}
 use mathlib.Core.Bool.{Bool, true, false, cond}
@@ -26,9 +26,11 @@ use Rattle.joining.specs.Answer.{all_found_of}
 use Rattle.joining.specs.Tables.{stored, chain, searched}
 use Rattle.joining.specs.Spots.{Spot, spot, place_of, statement_of, spotted, owned, spots, spots_fields, spots_piece, spots_items, tally, shares}
 use Rattle.joining.specs.Files.{In, Files, times}
-use Rattle.joining.specs.Settle.{bumped, Settled, settled, place_at, settles, Stand, names}
+use Rattle.joining.specs.Settle.{bumped, Settled, settled, place_at, placed, settles, Stand, names}
+use Rattle.std.specs.Prelude as prelude
+use Rattle.std.specs.Prelude.{Some, None}
 use Rattle.joining.specs.declared.search.Place.{Place}
-use Rattle.joining.proofs.FallingChains.{put_in, stored_length, chain_within, Has, Lacks, Ended, search_ends}
+use Rattle.joining.proofs.FallingChains.{put_in, stored_length, Has, Lacks, Ended, search_ends}
 use Rattle.joining.proofs.Times.{times_append, among_times}
 
 -- ---- the loop
@@ -37,25 +39,21 @@ module _ (tree l earlier holds before : List ℕ) (latest : ℕ) (ends : List �
   abbrev S : ℕ → ℕ → List ℕ → List ℕ → Settled
   S = settles tree l earlier holds before latest ends
 
-  settle_first : (n at : ℕ) (more held : List ℕ) → 0 < n → S n at more held ≡ cond (eqb (place_at tree l earlier holds before latest ends at).statement 0) (settled false more held) (S (n - 1) (get_or ends at 0) (bumped more (place_at tree l earlier holds before latest ends at).list) (bumped held (place_at tree l earlier holds before latest ends at).statement))
-  unfolding settles
-  settle_first zero at more held h = absurd (omega arith)
-  settle_first (suc n) at more held h = let d : suc n - 1 ≡ n = omega arith in rw d refl
-
   pub settle_none : (n at : ℕ) (more held : List ℕ) (v : Settled) → S n at more held ≡ v → n ≤ 0 → settled true more held ≡ v
   unfolding settles
   settle_none zero at more held v w h = w
   settle_none (suc n) at more held v w h = absurd (omega arith)
 
-  module _ (n at : ℕ) (more held : List ℕ) (v : Settled) (w : S n at more held ≡ v) (h : 0 < n) (m : ℕ) (em : m ≡ wide_at l at) (p : Place) (ep : p ≡ searched tree earlier holds before m latest) where
-    place_is : p ≡ place_at tree l earlier holds before latest ends at
-    place_is = ep ∙ ap (λ (x : ℕ). searched tree earlier holds before x latest) em
+  module _ (n k at : ℕ) (more held : List ℕ) (v : Settled) (w : S n at more held ≡ v) (h : n ≡ suc k) (m : ℕ) (em : m ≡ wide_at l at) (o : prelude.Option Place) (eo : o ≡ searched tree earlier holds before m latest) where
+    settle_first : placed o (settled false more held) (λ p. S k (get_or ends at 0) (bumped more p.list) (bumped held p.statement)) ≡ v
+    unfolding settles
+    settle_first = rw (eo, em) (rw h at w)
 
-    pub settle_lost : p.statement ≡ 0 → settled false more held ≡ v
-    settle_lost z = sym (settle_first n at more held h ∙ rw (← place_is, eq-eqb p.statement 0 z) refl) ∙ w
+    pub settle_lost : o ≡ None → settled false more held ≡ v
+    settle_lost z = (rw z at settle_first)
 
-    pub settle_next : (p.statement ≡ 0 → ⊥) → (more' held' : List ℕ) (q : ℕ) → more' ≡ bumped more p.list → held' ≡ bumped held p.statement → q ≡ get_or ends at 0 → S (n - 1) q more' held' ≡ v
-    settle_next z more' held' q a b c = sym (settle_first n at more held h ∙ rw (← place_is, ne_eqb p.statement 0 z, ← a, ← b, ← c) refl) ∙ w
+    pub settle_next : (p : Place) → o ≡ Some p → (more' held' : List ℕ) (q : ℕ) → more' ≡ bumped more p.list → held' ≡ bumped held p.statement → q ≡ get_or ends at 0 → S k q more' held' ≡ v
+    settle_next p z more' held' q a b c = rw (a, b, c) (rw z at settle_first)
 
 pub settle_count : (tree l earlier holds before : List ℕ) (latest : ℕ) (ends : List ℕ) (n m at : ℕ) (more held : List ℕ) → n ≡ m → settles tree l earlier holds before latest ends n at more held ≡ settles tree l earlier holds before latest ends m at more held
 settle_count tree l earlier holds before latest ends n m at more held e = ap (λ (x : ℕ). settles tree l earlier holds before latest ends x at more held) e
@@ -153,10 +151,10 @@ module _ (tree l earlier holds before : List ℕ) (latest : ℕ) (ends : List �
     pub more' : r.every ≡ true → (p : ℕ) → get_or r.more p 0 ≡ tally place_of (shares es) ss p + get_or more p 0
     pub held' : r.every ≡ true → (p : ℕ) → get_or r.held p 0 ≡ tally statement_of (shares es) ss p + get_or held p 0
 
-  found_entry : (at : ℕ) (e : Entry) → wide_at l at ≡ e.containing → (p : Place) → p ≡ place_at tree l earlier holds before latest ends at → Has tree holds before (wide_at l at) (chain earlier latest) p → (0 < p.statement) × In (spot p.list p.statement e.containing) ss
-  found_entry at e w p z h =
+  found_entry : (at : ℕ) (e : Entry) → wide_at l at ≡ e.containing → (p : Place) → Has tree holds before (wide_at l at) (chain earlier latest) p → In (spot p.list p.statement e.containing) ss
+  found_entry at e w p h =
       let i : In (spot p.list p.statement (wide_at tree (p.statement + 2))) ss = f.filed p.list p.statement h.within h.stands in
-      ((chain_within before (get_or holds p.list 0) p.statement h.stands).0, rw (h.marked ∙ w) at i)
+      (rw (h.marked ∙ w) at i)
 
   pub counted : (es : List Entry) (at : ℕ) (more held : List ℕ) → Stand l ends at es → 32768 ≤ length more → 32768 ≤ length held → ((p : ℕ) → get_or more p 0 + length es < 65536) → ((p : ℕ) → get_or held p 0 + length es < 65536) → Counted more held es (settles tree l earlier holds before latest ends (length es) at more held)
   unfolding settles Stand all_found_of
@@ -165,7 +163,7 @@ module _ (tree l earlier holds before : List ℕ) (latest : ℕ) (ends : List �
     more' = λ z p. let t : tally place_of (shares []) ss p ≡ 0 = tally_nothing place_of ss p in omega arith;
     held' = λ z p. let t : tally statement_of (shares []) ss p ≡ 0 = tally_nothing statement_of ss p in omega arith;
   }
-  counted (e ∷ es) at more held s m h a b = go (place_at tree l earlier holds before latest ends at) refl (search_ends tree holds before (wide_at l at) earlier latest) (λ x y more₁ held₁ m₁ h₁ a₁ b₁. counted es (get_or ends at 0) more₁ held₁ s.2 m₁ h₁ a₁ b₁)
+  counted (e ∷ es) at more held s m h a b = go (place_at tree l earlier holds before latest ends at) (search_ends tree holds before (wide_at l at) earlier latest) (λ x y more₁ held₁ m₁ h₁ a₁ b₁. counted es (get_or ends at 0) more₁ held₁ s.2 m₁ h₁ a₁ b₁)
     where
       bound : (t : List ℕ) (i : ℕ) → i < length t → ((p : ℕ) → get_or t p 0 + suc (length es) < 65536) → (p : ℕ) → get_or (bumped t i) p 0 + length es < 65536
       bound t i j u p =
@@ -177,33 +175,31 @@ module _ (tree l earlier holds before : List ℕ) (latest : ℕ) (ends : List �
           one true g = omega arith
           one false g = omega arith
 
-      go : (p : Place) → place_at tree l earlier holds before latest ends at ≡ p → Ended tree holds before (wide_at l at) (chain earlier latest) (place_at tree l earlier holds before latest ends at)
+      go : (o : prelude.Option Place) → Ended tree holds before (wide_at l at) (chain earlier latest) o
           → ((x y : ℕ) (more₁ held₁ : List ℕ) → 32768 ≤ length more₁ → 32768 ≤ length held₁ → ((p : ℕ) → get_or more₁ p 0 + length es < 65536) → ((p : ℕ) → get_or held₁ p 0 + length es < 65536) → Counted more₁ held₁ es (settles tree l earlier holds before latest ends (length es) (get_or ends at 0) more₁ held₁))
-          → Counted more held (e ∷ es) (cond (eqb (place_at tree l earlier holds before latest ends at).statement 0) (settled false more held) (settles tree l earlier holds before latest ends (length es) (get_or ends at 0) (bumped more (place_at tree l earlier holds before latest ends at).list) (bumped held (place_at tree l earlier holds before latest ends at).statement)))
-      go p z (Ended.found has) rest =
-          let i = found_entry at e s.0 (place_at tree l earlier holds before latest ends at) refl has in
-          let inside : In (spot (place_at tree l earlier holds before latest ends at).list (place_at tree l earlier holds before latest ends at).statement e.containing) ss = i.1 in
-          let some' : 0 < (place_at tree l earlier holds before latest ends at).statement = i.0 in
-          let near = short (spot (place_at tree l earlier holds before latest ends at).list (place_at tree l earlier holds before latest ends at).statement e.containing) inside in
-          let n₁ : (place_at tree l earlier holds before latest ends at).list < 32768 = near.0 in
-          let n₂ : (place_at tree l earlier holds before latest ends at).statement < 32768 = near.1 in
-          let there : among ms e.containing ≡ true = among_times e.containing ms ∙ lt-ltb 0 (times e.containing ms) (let o : 1 ≤ times e.containing (names ss) = in_times (spot (place_at tree l earlier holds before latest ends at).list (place_at tree l earlier holds before latest ends at).statement e.containing) ss inside in let k : times e.containing (names ss) ≡ times e.containing ms = known e.containing in omega arith) in
-          let c = rest 0 0 (bumped more (place_at tree l earlier holds before latest ends at).list) (bumped held (place_at tree l earlier holds before latest ends at).statement) (omega (arith, bumped_length more (place_at tree l earlier holds before latest ends at).list)) (omega (arith, bumped_length held (place_at tree l earlier holds before latest ends at).statement)) (bound more (place_at tree l earlier holds before latest ends at).list (omega arith) a) (bound held (place_at tree l earlier holds before latest ends at).statement (omega arith) b) in
-          rw (ne_eqb (place_at tree l earlier holds before latest ends at).statement 0 (λ y. omega arith)) (record {
+          → Counted more held (e ∷ es) (placed o (settled false more held) (λ p. settles tree l earlier holds before latest ends (length es) (get_or ends at 0) (bumped more p.list) (bumped held p.statement)))
+      go o (Ended.found p z has) rest =
+          let inside : In (spot p.list p.statement e.containing) ss = found_entry at e s.0 p has in
+          let near = short (spot p.list p.statement e.containing) inside in
+          let n₁ : p.list < 32768 = near.0 in
+          let n₂ : p.statement < 32768 = near.1 in
+          let there : among ms e.containing ≡ true = among_times e.containing ms ∙ lt-ltb 0 (times e.containing ms) (let o : 1 ≤ times e.containing (names ss) = in_times (spot p.list p.statement e.containing) ss inside in let k : times e.containing (names ss) ≡ times e.containing ms = known e.containing in omega arith) in
+          let c = rest 0 0 (bumped more p.list) (bumped held p.statement) (omega (arith, bumped_length more p.list)) (omega (arith, bumped_length held p.statement)) (bound more p.list (omega arith) a) (bound held p.statement (omega arith) b) in
+          rw z (record {
             every = rw there c.every;
             more' = λ y q.
-                let k = tally_entry place_of e es ss (spot (place_at tree l earlier holds before latest ends at).list (place_at tree l earlier holds before latest ends at).statement e.containing) inside refl (once e.containing) q in
-                let d = bumped_at more (place_at tree l earlier holds before latest ends at).list q (omega arith) (let g : get_or more (place_at tree l earlier holds before latest ends at).list 0 + suc (length es) < 65536 = a (place_at tree l earlier holds before latest ends at).list in omega arith) in
+                let k = tally_entry place_of e es ss (spot p.list p.statement e.containing) inside refl (once e.containing) q in
+                let d = bumped_at more p.list q (omega arith) (let g : get_or more p.list 0 + suc (length es) < 65536 = a p.list in omega arith) in
                 c.more' y q ∙ rw d (rw k (omega arith));
             held' = λ y q.
-                let k = tally_entry statement_of e es ss (spot (place_at tree l earlier holds before latest ends at).list (place_at tree l earlier holds before latest ends at).statement e.containing) inside refl (once e.containing) q in
-                let d = bumped_at held (place_at tree l earlier holds before latest ends at).statement q (omega arith) (let g : get_or held (place_at tree l earlier holds before latest ends at).statement 0 + suc (length es) < 65536 = b (place_at tree l earlier holds before latest ends at).statement in omega arith) in
+                let k = tally_entry statement_of e es ss (spot p.list p.statement e.containing) inside refl (once e.containing) q in
+                let d = bumped_at held p.statement q (omega arith) (let g : get_or held p.statement 0 + suc (length es) < 65536 = b p.statement in omega arith) in
                 c.held' y q ∙ rw d (rw k (omega arith));
           })
-      go p z (Ended.lost n lacks) rest =
+      go o (Ended.lost z lacks) rest =
           let none' : times e.containing (names ss) ≡ 0 = nobody (times e.containing (names ss)) refl lacks in
           let gone : among ms e.containing ≡ false = among_times e.containing ms ∙ le-ltb 0 (times e.containing ms) (let k : times e.containing (names ss) ≡ times e.containing ms = known e.containing in omega arith) in
-          rw (eq-eqb (place_at tree l earlier holds before latest ends at).statement 0 (ap (λ (y : Place). y.statement) n)) (record { every = rw gone refl; more' = λ y. never y; held' = λ y. never y })
+          rw z (record { every = rw gone refl; more' = λ y. never y; held' = λ y. never y })
         where
           nobody : (k : ℕ) → times e.containing (names ss) ≡ k → Lacks tree holds before (wide_at l at) (chain earlier latest) → times e.containing (names ss) ≡ 0
           nobody zero y lk = y

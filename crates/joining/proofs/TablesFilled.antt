@@ -1,12 +1,12 @@
 -- The tour of the tree fills the tables.
 -- Assumes nothing.
-use Prim.Native.Nat.{ℕ, ◌+◌, ◌-◌, ◌*◌, ◌/◌, ◌%◌, ◌<◌, ◌≤◌}
+use Prim.Native.Nat.{ℕ, zero, suc, ◌+◌, ◌-◌, ◌*◌, ◌/◌, ◌%◌, ◌<◌, ◌≤◌}
 use mathlib.Core.Path.{◌≡◌, refl, sym, ap, ◌∙◌}
 use mathlib.Core.List.{List, [], ◌∷◌}
 use mathlib.Core.Bool.{Bool, true, false, cond}
 use native.Mathlib.Omega.{arith}
 use lib.Dec.{eqb}
-use lib.ListN.{length, get_or}
+use lib.ListN.{length, get_or, replicate, length-replicate}
 use borrow.Author.Tests.{eq-eqb, ne_eqb}
 use Rattle.tree.specs.Tree.{Node, encode}
 use Rattle.tree.specs.Grammar.{among}
@@ -29,7 +29,7 @@ use Rattle.rewritten.proofs.MarksReader.{Reading, reading_start, too_long, noted
 use Rattle.rewritten.proofs.Marks.{Knows, met_after, knows_next}
 use Rattle.joining.specs.Spots.{spots}
 use Rattle.joining.specs.Files.{Shelf, shelf, passed_by, added, Files, Notes, times, Lent, Ready, Collected, Toured}
-use Rattle.joining.specs.declared.bodies.Found.TheVariants.{Latest, NoTree}
+use Rattle.std.specs.Prelude.{Some, None}
 use Rattle.joining.proofs.FallingChains.{chain_end}
 use Rattle.joining.proofs.Times.{met_times, node_times}
 use Rattle.joining.proofs.Walk.{Walk, walker, walks, walked}
@@ -127,6 +127,14 @@ blank_notes seen s z = record { size = s; at = λ x h. z x }
 abbrev Cleared : List ℕ → List ℕ → Type 0
 Cleared l m = (length m ≡ length l) × ((x : ℕ) → get_or m x 0 ≡ 0)
 
+pub cleared : (l m : List ℕ) → m ≡ replicate (length l) 0 → Cleared l m
+cleared l m e = (ap length e ∙ length-replicate {A = ℕ} (length l) 0, λ x. ap (λ (t : List ℕ). get_or t x 0) e ∙ zeros (length l) x)
+  where
+    zeros : (n x : ℕ) → get_or {A = ℕ} (replicate n 0) x 0 ≡ 0
+    zeros zero x = refl
+    zeros (suc n) zero = refl
+    zeros (suc n) (suc x) = zeros n x
+
 pub ready : (frames seen around earlier holds before : List ℕ) → Lent frames seen around earlier holds before → (seen₁ around₁ holds₁ : List ℕ) → Cleared seen seen₁ → Cleared around around₁ → Cleared holds holds₁ → Ready frames seen₁ around₁ earlier holds₁ before
 ready frames seen around earlier holds before n seen₁ around₁ holds₁ s a h = record {
   lent = record {
@@ -190,7 +198,7 @@ module _ (l fs₀ seen₀ a₀ e₀ h₀ b₀ fs seen a e h b : List ℕ) (c : C
     shut : Took l fs fs (coming l fs c) c.at c.deep (step_closed fs c.at c.deep (eqb (c.top % 2) 0))
     shut = closes l fs seen c (length fs₀) (is_rewritten l) g.reads done
 
-    pub tour_whole : c.deep ≡ 0 → c.at ≡ length l → Ready fs₀ seen₀ a₀ e₀ h₀ b₀ → Toured l seen e h b (Latest latest)
+    pub tour_whole : c.deep ≡ 0 → c.at ≡ length l → Ready fs₀ seen₀ a₀ e₀ h₀ b₀ → Toured l seen e h b (Some latest)
     tour_whole z w rd = record {
       number = sym (ap (λ (y : Bool). cond y 0 3) (sym (closed_ends l fs seen c (length fs₀) (is_rewritten l) g.reads done z) ∙ eq-eqb c.at (length l) w));
       values = λ n q k x. collecting_ends l fs fs c (length fs₀) g.reads.tour long (step_closed fs c.at c.deep (eqb (c.top % 2) 0)) shut (ap (λ (y : ℕ). step_closed fs c.at y (eqb (c.top % 2) 0)) z) seen (shelf a e h b latest begun) n q k (g.will n q k x rd);
@@ -229,5 +237,5 @@ pub tour_long : (l : List ℕ) → 32768 < length l → is_rewritten l ≡ false
 tour_long l h = sym (too_long l h)
 
 -- no tree, by its number
-pub toured_none : {l seen e h b : List ℕ} → is_rewritten l ≡ false → Toured l seen e h b NoTree
+pub toured_none : {l seen e h b : List ℕ} → is_rewritten l ≡ false → Toured l seen e h b None
 toured_none r = record { number = sym (ap (λ (y : Bool). cond y 0 3) r); values = tt }

@@ -1,5 +1,5 @@
 -- What is answered of a tree, a list and a slice: 3, 12, 13 and 7 in this order, or the joined tree; and every byte of the slice.
-use Rattle.std.specs.Prelude.{ℕ, ◌-◌, min, ◌≡◌, List, [], ◌∷◌, ◌++◌, Bool, true, false, cond, leb, length, replicate}
+use Rattle.std.specs.Prelude.{ℕ, ◌-◌, min, ◌≡◌, List, [], ◌∷◌, ◌++◌, Bool, true, false, cond, leb, length, replicate, Result, Ok, Err}
 use Rattle.tree.specs.Tree.{Node, marks, encode}
 use Rattle.tree.specs.Grammar.{among}
 use Rattle.tree.specs.Read.{Got}
@@ -8,6 +8,8 @@ use Rattle.lowering.specs.Collect.{Entry}
 use Rattle.rewritten.specs.Rewritten.{distinct, read_rewritten}
 use Rattle.joining.specs.List.{Handed, read_handed, inner_marks}
 use Rattle.joining.specs.Join.{found, joined_tree}
+use Rattle.joining.specs.declared.Refusal.{Refusal}
+use Rattle.joining.specs.declared.Refusal.TheVariants.{NoTree, NoList, NotFound, TooLong}
 
 pub data Outcome : Type 0 where
   refusal : ℕ → Outcome
@@ -59,3 +61,17 @@ Answered bytes list room answer size out =
     (answer ≡ answer_of (outcome bytes list room))
     × (size ≡ length (bytes_of (outcome bytes list room)))
     × (out ≡ filled (bytes_of (outcome bytes list room)) room)
+
+-- ---- the same inside
+
+-- the number of a refusal
+abbrev pub refusal_number : Refusal → ℕ
+refusal_number NoTree = 3
+refusal_number NoList = 12
+refusal_number NotFound = 13
+refusal_number TooLong = 7
+
+-- the length of the joined tree, which the slice holds then; on a refusal the slice holds anything
+abbrev pub Told : List ℕ → List ℕ → ℕ → Result ℕ Refusal → List ℕ → Type 0
+Told bytes list room (Ok n) out = Answered bytes list room 0 n out
+Told bytes list room (Err r) out = outcome bytes list room ≡ refusal (refusal_number r)

@@ -9,8 +9,8 @@ use Rattle.rewritten.specs.Pass.{folded}
 use Rattle.rewritten.specs.Marks.{meet}
 use Rattle.joining.specs.List.{read_declarators, longest_list}
 use Rattle.joining.specs.Files.{Notes}
-use Rattle.joining.specs.declared.entries.Ending.{Ending}
-use Rattle.joining.specs.declared.entries.Ending.TheVariants.{At, Missing}
+use Rattle.std.specs.Prelude as prelude
+use Rattle.std.specs.Prelude.{Some, None}
 
 -- where it ends and the marks that were met then; or it is off its layout, or has a mark that was met before
 pub data Told : Type 0 where
@@ -60,9 +60,9 @@ pub record Ended (seen : List ℕ) (q : ℕ) (v : Told) : Type 0 where
   pub known : Notes seen met
 
 -- document 01's number of an ending: 12 where there is no list, else 0
-abbrev pub ending_number : Ending → ℕ
-ending_number (At q) = 0
-ending_number Missing = 12
+abbrev pub ending_number : prelude.Option ℕ → ℕ
+ending_number (Some q) = 0
+ending_number None = 12
 
 -- the same of what is told
 abbrev pub told_number : Told → ℕ
@@ -70,18 +70,18 @@ told_number lost = 12
 told_number (told q m) = 0
 
 -- its values: the position and the marks that were met
-abbrev pub EndsAt : Ending → List ℕ → Told → Type 0
-EndsAt (At q) seen v = Ended seen q v
-EndsAt Missing seen v = Unit {0}
+abbrev pub EndsAt : prelude.Option ℕ → List ℕ → Told → Type 0
+EndsAt (Some q) seen v = Ended seen q v
+EndsAt None seen v = Unit {0}
 
-pub record Ends (r : Ending) (seen : List ℕ) (v : Told) : Type 0 where
+pub record Ends (r : prelude.Option ℕ) (seen : List ℕ) (v : Told) : Type 0 where
   pub number : ending_number r ≡ told_number v
   pub values : EndsAt r seen v
 
-abbrev pub Within : Ending → ℕ → ℕ → Type 0
-Within (At q) low size = (low ≤ q) × (q ≤ size)
-Within Missing low size = Unit {0}
+abbrev pub Within : prelude.Option ℕ → ℕ → ℕ → Type 0
+Within (Some q) low size = (low ≤ q) × (q ≤ size)
+Within None low size = Unit {0}
 
-abbrev pub IfAt : Ending → Type 0 → Type 0
-IfAt (At q) A = A
-IfAt Missing A = Unit {0}
+abbrev pub IfAt : prelude.Option ℕ → Type 0 → Type 0
+IfAt (Some q) A = A
+IfAt None A = Unit {0}

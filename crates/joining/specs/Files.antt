@@ -1,5 +1,5 @@
 -- The tables that are filled while the tree is toured, and what they hold then.
-use Rattle.std.specs.Prelude.{ℕ, ◌+◌, ◌-◌, ◌<◌, ◌≤◌, ◌≡◌, List, [], ◌∷◌, cond, ◌⊎◌, eqb, ltb, length, get_or}
+use Rattle.std.specs.Prelude.{ℕ, ◌+◌, ◌-◌, ◌<◌, ◌≤◌, ◌≡◌, List, [], ◌∷◌, cond, ◌⊎◌, eqb, ltb, length, get_or, Option, Some, None}
 use Rattle.tree.specs.Tree.{Node, marks}
 use Rattle.tree.specs.Grammar.{among}
 use Rattle.tree.specs.Grammar.Stage.{rewritten}
@@ -11,8 +11,6 @@ use Rattle.rewritten.specs.declared.step.Event.TheVariants.{Begins, Ends, Opens,
 use Rattle.joining.specs.Join.{is_container}
 use Rattle.joining.specs.Tables.{stored, chain}
 use Rattle.joining.specs.Spots.{Spot, spot, spots}
-use Rattle.joining.specs.declared.bodies.Found.{Found}
-use Rattle.joining.specs.declared.bodies.Found.TheVariants.{Latest, NoTree}
 
 abbrev pub In : {A : Type 0} → A → List A → Type 0
 In x [] = ⊥
@@ -100,15 +98,15 @@ pub record Collected (tree seen earlier holds before : List ℕ) (latest : ℕ) 
   pub low : (p : ℕ) → get_or holds p 0 < 32768
 
 -- document 01's number of what it answers: 3 where the bytes are no rewritten tree, else 0
-abbrev pub found_number : Found → ℕ
-found_number (Latest latest) = 0
-found_number NoTree = 3
+abbrev pub found_number : Option ℕ → ℕ
+found_number (Some latest) = 0
+found_number None = 3
 
 -- its values: the last of the containers' lists, from which the tables hold what they hold of the tree
-abbrev pub FromLatest : List ℕ → List ℕ → List ℕ → List ℕ → List ℕ → Found → Type 0
-FromLatest tree seen earlier holds before (Latest latest) = (n : Node) (q k : ℕ) → read_tree rewritten (length tree) tree ≡ got n q k → Collected tree seen earlier holds before latest n
-FromLatest tree seen earlier holds before NoTree = Unit {0}
+abbrev pub FromLatest : List ℕ → List ℕ → List ℕ → List ℕ → List ℕ → Option ℕ → Type 0
+FromLatest tree seen earlier holds before (Some latest) = (n : Node) (q k : ℕ) → read_tree rewritten (length tree) tree ≡ got n q k → Collected tree seen earlier holds before latest n
+FromLatest tree seen earlier holds before None = Unit {0}
 
-pub record Toured (tree seen earlier holds before : List ℕ) (r : Found) : Type 0 where
+pub record Toured (tree seen earlier holds before : List ℕ) (r : Option ℕ) : Type 0 where
   pub number : found_number r ≡ cond (is_rewritten tree) 0 3
   pub values : FromLatest tree seen earlier holds before r

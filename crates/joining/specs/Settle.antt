@@ -1,5 +1,5 @@
 -- Each entry to its statement, by the tables.
-use Rattle.std.specs.Prelude.{ℕ, zero, suc, ◌+◌, ◌≡◌, List, [], ◌∷◌, Bool, true, false, cond, eqb, get_or}
+use Rattle.std.specs.Prelude.{ℕ, zero, suc, ◌+◌, ◌≡◌, List, [], ◌∷◌, Bool, true, false, get_or, Option, Some, None}
 use Rattle.tree.specs.Tree.{encode_piece}
 use Rattle.tree.specs.Tree.Piece.{list}
 use Rattle.tree.specs.Read.{wide_at}
@@ -22,17 +22,20 @@ pub record Settled : Type 0 where
 abbrev pub settled : Bool → List ℕ → List ℕ → Settled
 settled b m h = record { every = b; more = m; held = h }
 
+-- what comes of a place, if there is one
+abbrev pub placed : Option Place → Settled → (Place → Settled) → Settled
+placed None lost f = lost
+placed (Some p) lost f = f p
+
 module _ (tree list earlier holds before : List ℕ) (latest : ℕ) (ends : List ℕ) where
-  abbrev pub place_at : ℕ → Place
+  abbrev pub place_at : ℕ → Option Place
   place_at at = searched tree earlier holds before (wide_at list at) latest
 
   -- so many entries from a position on
   unfoldable pub settles : ℕ → ℕ → List ℕ → List ℕ → Settled
   settles zero at more held = settled true more held
   settles (suc n) at more held =
-      cond (eqb (place_at at).statement 0)
-      (settled false more held)
-      (settles n (get_or ends at 0) (bumped more (place_at at).list) (bumped held (place_at at).statement))
+      placed (place_at at) (settled false more held) (λ p. settles n (get_or ends at 0) (bumped more p.list) (bumped held p.statement))
 
 -- entries that stand in the list from a position on: each has its mark, its declarators' bytes and its end
 unfoldable pub Stand : List ℕ → List ℕ → ℕ → List Entry → Type 0

@@ -1,5 +1,5 @@
 -- What is written, read off the tables.
-use Rattle.std.specs.Prelude.{ℕ, zero, suc, ◌+◌, ◌-◌, ◌%◌, ◌<◌, ◌≤◌, min, max, ◌≡◌, List, [], ◌∷◌, ◌++◌, Bool, true, false, cond, eqb, ltb, leb, length, get_or, take, drop, replicate}
+use Rattle.std.specs.Prelude.{ℕ, zero, suc, ◌+◌, ◌-◌, ◌%◌, ◌<◌, ◌≤◌, max, ◌≡◌, List, [], ◌∷◌, ◌++◌, Bool, true, false, cond, eqb, ltb, length, get_or, take, drop}
 use Rattle.tree.specs.Tree.{wide_bytes}
 use Rattle.tree.specs.Read.{byte_at, wide_at}
 use Rattle.drawing.specs.Pen.{put, reach}
@@ -101,10 +101,3 @@ unfoldable pub whole_bytes : List ℕ → List ℕ → List ℕ → List ℕ →
 whole_bytes tree list ends seen more held excluded =
     head_bytes tree list seen more excluded
     ++ rest_bytes tree list ends seen more held (length tree - 4) false 4 (head_last list seen excluded)
-
--- what is handed back of a slice and of where the tree ends: 7 where that is past the slice or past 32,768
-abbrev pub Finished : List ℕ → ℕ → ℕ → ℕ → List ℕ → Type 0
-Finished l n answer size l' =
-    (answer ≡ cond (leb n (min (length l) 32768)) 0 7)
-    × (size ≡ cond (leb n (min (length l) 32768)) n 0)
-    × (l' ≡ cond (leb n (min (length l) 32768)) l (replicate (length l) 0))

@@ -11,26 +11,13 @@ use rewritten::step::Cursor;
 use rewritten::{look, next, seen};
 use tree::bytes;
 
-// 1 for Program, Block, FunctionBody, StaticBlock, Case.
-fn container(kind: usize) -> usize
-    ensures { result ≡ cond (is_container kind) 1 0 }
+// Program, Block, FunctionBody, StaticBlock, Case.
+const CONTAINERS: [usize; 5] = [1, 2, 16, 42, 44];
+
+fn is_container(kind: usize) -> bool
+    ensures { result ≡ is_container kind }
 {
-    if kind == 1 {
-        return 1;
-    }
-    if kind == 2 {
-        return 1;
-    }
-    if kind == 16 {
-        return 1;
-    }
-    if kind == 42 {
-        return 1;
-    }
-    if kind == 44 {
-        return 1;
-    }
-    0
+    CONTAINERS.contains(&kind)
 }
 
 // The last of the containers' lists; the item of one that has just begun, else 0.
@@ -46,7 +33,7 @@ fn begin(around: &mut [u16], kind: usize, at: usize, deep: usize) -> usize
     ensures { (around.new ≡ stored around.old (deep + 1) (cond (is_container kind) 1 0)) × (result ≡ cond (ltb 1 (get_or around.old deep 0)) at 0) }
 {
     let list = table::at(around, deep);
-    table::put(around, deep + 1, container(kind));
+    table::put(around, deep + 1, usize::from(is_container(kind)));
     if 1 < list { at } else { 0 }
 }
 
@@ -76,12 +63,10 @@ fn enter(
 fn mark(around: &[u16], holds: &mut [u16], before: &mut [u16], begun: usize, deep: usize)
     ensures { (e : List ℕ) (l at m : ℕ) → shelf around.now e holds.new before.new l 0 ≡ added (shelf around.now e holds.old before.old l begun) at deep (Mark m) }
 {
-    if 0 < begun {
-        if 0 < deep {
-            let list = table::at(around, deep - 1);
-            table::put(before, begun, table::at(holds, list));
-            table::put(holds, list, begun);
-        }
+    if 0 < begun && 0 < deep {
+        let list = table::at(around, deep - 1);
+        table::put(before, begun, table::at(holds, list));
+        table::put(holds, list, begun);
     }
 }
 
@@ -100,43 +85,23 @@ fn add(
     requires { (deep < 65536) × (what % 16 ≡ 0 → ⊥) }
     ensures { shelf around.new earlier.new holds.new before.new result.latest result.begun ≡ added (shelf around.old earlier.old holds.old before.old bodies.latest bodies.begun) at deep (event_for tree.now at (what % 16) (what / 16)) }
 {
-    let latest = bodies.latest;
     let code = what % 16;
+    if code == 2 {
+        let latest = enter(around, earlier, holds, bodies.latest, at, deep);
+        return Bodies { latest, begun: 0 };
+    }
     if code < 3 {
-        if code == 2 {
-            let last = enter(around, earlier, holds, latest, at, deep);
-            return Bodies {
-                latest: last,
-                begun: 0,
-            };
-        }
         let begun = begin(around, bytes::peek(tree, at), at, deep);
-        return Bodies {
-            latest: latest,
-            begun: begun,
-        };
+        return Bodies { begun, ..bodies };
     }
     if code == 4 {
         mark(around, holds, before, bodies.begun, deep);
-        return Bodies {
-            latest: latest,
-            begun: 0,
-        };
     }
-    Bodies {
-        latest: latest,
-        begun: 0,
-    }
+    Bodies { begun: 0, ..bodies }
 }
 
-// The last of the containers' lists; or the bytes are no rewritten tree.
-#[derive(Clone, Copy)]
-pub(crate) enum Found {
-    Latest(usize),
-    NoTree,
-}
-
-// The tree is read and toured at once. Right if enough is lent of each table.
+// The tree is read and toured at once. The last of the containers' lists, if the bytes are a rewritten tree. Right if
+// enough is lent of each table.
 pub(crate) fn collect(
     tree: &[u8],
     frames: &mut [usize],
@@ -145,21 +110,15 @@ pub(crate) fn collect(
     earlier: &mut [u16],
     holds: &mut [u16],
     before: &mut [u16],
-) -> Found
+) -> Option<usize>
     ensures { Lent frames.old seen.old around.old earlier.old holds.old before.old → Toured tree.now seen.new earlier.new holds.new before.new result }
 {
-    if 32768 < tree.len() {
-        return Found::NoTree;
-    }
-    if frames.len() < 16384 {
-        return Found::NoTree;
-    }
-    if seen.len() < 65536 {
-        return Found::NoTree;
+    if 32768 < tree.len() || frames.len() < 16384 || seen.len() < 65536 {
+        return None;
     }
     seen::clear(seen);
-    table::clear(around);
-    table::clear(holds);
+    around.fill(0);
+    holds.fill(0);
     let mut cursor = next::begin();
     let mut bodies = Bodies {
         latest: 0,
@@ -172,31 +131,27 @@ pub(crate) fn collect(
         if look::is_closed(top) {
             if deep == 0 {
                 if at == tree.len() {
-                    return Found::Latest(bodies.latest);
+                    return Some(bodies.latest);
                 }
-                return Found::NoTree;
+                return None;
             }
-            let latest = bodies.latest;
-            bodies = Bodies {
-                latest: latest,
-                begun: 0,
-            };
+            bodies = Bodies { begun: 0, ..bodies };
             cursor = Cursor {
-                at: at,
+                at,
                 deep: deep - 1,
                 top: next::frame_at(frames, deep - 1),
             };
         } else {
             let what = look::look(tree, at, top);
             if what % 16 == 0 {
-                return Found::NoTree;
+                return None;
             }
             if seen::is_new_ahead(seen, what) {
                 seen::note_ahead(seen, what);
                 bodies = add(tree, around, earlier, holds, before, bodies, at, deep, what);
                 cursor = next::moved(tree, frames, at, deep, look::rest_of(top), what);
             } else {
-                return Found::NoTree;
+                return None;
             }
         }
     }

@@ -1,42 +1,14 @@
 // The three slices, and the tables in between.
-ghost use Rattle.std.specs.Prelude.{◌≡◌, ◌≤◌, length, replicate};
-ghost use Rattle.joining.specs.Answer.{Answered};
+ghost use Rattle.std.specs.Prelude.{◌≤◌, length};
+ghost use Rattle.joining.specs.Answer.{Answered, Told};
 ghost use Rattle.joining.specs.Files.{Lent};
-ghost use Rattle.joining.specs.Writing.{Finished};
 
-use crate::bodies::Found;
-use crate::entries::Ending;
-use crate::{Joined, bodies, entries, settle, table, write};
+use crate::search::Filed;
+use crate::write::Source;
+use crate::{Joined, Refusal, bodies, entries, settle};
 use drawing::pen;
 
-// Every lent byte 0.
-fn refused(out: &mut [u8], n: u8) -> Joined
-    ensures { (result.answer ≡ n) × (result.tree_len ≡ 0) × (out.new ≡ replicate (length out.old) 0) }
-{
-    pen::clear(out);
-    Joined {
-        answer: n,
-        tree_len: 0,
-    }
-}
-
-// 7 where the tree is longer than a tree may be or than the slice.
-fn finished(out: &mut [u8], n: usize) -> Joined
-    ensures { Finished out.old n result.answer result.tree_len out.new }
-{
-    if 32768 < n {
-        return refused(out, 7);
-    }
-    if out.len() < n {
-        return refused(out, 7);
-    }
-    Joined {
-        answer: 0,
-        tree_len: n,
-    }
-}
-
-// Right if 16,384 frames, 65,536 bytes for marks and a place for each byte are lent.
+// The length of the joined tree. Right if 16,384 frames, 65,536 bytes for marks and a place for each byte are lent.
 fn joined(
     tree: &[u8],
     list: &[u8],
@@ -50,25 +22,38 @@ fn joined(
     ends: &mut [u16],
     more: &mut [u16],
     held: &mut [u16],
-) -> Joined
-    ensures { Lent frames.old marks.old around.old earlier.old holds.old before.old → 16384 ≤ length ends.old → 32768 ≤ length more.old → 32768 ≤ length held.old → Answered tree.now list.now (length out.old) result.answer result.tree_len out.new }
+) -> Result<usize, Refusal>
+    ensures { Lent frames.old marks.old around.old earlier.old holds.old before.old → 16384 ≤ length ends.old → 32768 ≤ length more.old → 32768 ≤ length held.old → Told tree.now list.now (length out.old) result out.new }
 {
-    table::clear(more);
-    table::clear(held);
-    match bodies::collect(tree, frames, marks, around, earlier, holds, before) {
-        Found::Latest(latest) => match entries::read(list, frames, marks, ends) {
-            Ending::At(excluded) => {
-                if settle::settle(tree, list, earlier, holds, before, latest, ends, more, held) {
-                    pen::clear(out);
-                    let n = write::write(tree, list, excluded, marks, ends, more, held, out);
-                    return finished(out, n);
-                }
-                refused(out, 13)
-            }
-            Ending::Missing => refused(out, 12),
-        },
-        Found::NoTree => refused(out, 3),
+    more.fill(0);
+    held.fill(0);
+    let latest = bodies::collect(tree, frames, marks, around, earlier, holds, before).ok_or(
+        Refusal::NoTree,
+    )?;
+    let excluded = entries::read(list, frames, marks, ends).ok_or(Refusal::NoList)?;
+    let filed = Filed {
+        earlier,
+        holds,
+        before,
+        latest,
+    };
+    if !settle::settle(tree, list, &filed, ends, more, held) {
+        return Err(Refusal::NotFound);
     }
+    pen::clear(out);
+    let source = Source {
+        tree,
+        list,
+        seen: marks,
+        ends,
+        more,
+        held,
+    };
+    let n = source.write(excluded, out);
+    if 32768 < n || out.len() < n {
+        return Err(Refusal::TooLong);
+    }
+    Ok(n)
 }
 
 pub fn join(tree: &[u8], list: &[u8], out: &mut [u8]) -> Joined
@@ -83,7 +68,7 @@ pub fn join(tree: &[u8], list: &[u8], out: &mut [u8]) -> Joined
     let mut ends: [u16; 16384] = [0; 16384];
     let mut more: [u16; 32768] = [0; 32768];
     let mut held: [u16; 32768] = [0; 32768];
-    joined(
+    let told = joined(
         tree,
         list,
         out,
@@ -96,5 +81,15 @@ pub fn join(tree: &[u8], list: &[u8], out: &mut [u8]) -> Joined
         &mut ends,
         &mut more,
         &mut held,
-    )
+    );
+    match told {
+        Ok(tree_len) => Joined {
+            answer: 0,
+            tree_len,
+        },
+        Err(refusal) => {
+            pen::clear(out);
+            Joined::from(refusal)
+        }
+    }
 }

@@ -3,7 +3,8 @@ ghost use Rattle.std.specs.Prelude.{◌≡◌};
 ghost use Rattle.tree.specs.Read.{wide_at};
 ghost use Rattle.joining.specs.Settle.{bumped, settled, settles};
 
-use crate::{search, table};
+use crate::search::Filed;
+use crate::table;
 use tree::bytes;
 
 // One more at a position of a table.
@@ -18,34 +19,21 @@ fn bump(counts: &mut [u16], i: usize)
 pub(crate) fn settle(
     tree: &[u8],
     list: &[u8],
-    earlier: &[u16],
-    holds: &[u16],
-    before: &[u16],
-    latest: usize,
+    filed: &Filed,
     ends: &[u16],
     more: &mut [u16],
     held: &mut [u16],
 ) -> bool
-    ensures { settled result more.new held.new ≡ settles tree.now list.now earlier.now holds.now before.now latest ends.now (wide_at list.now 0) 2 more.old held.old }
+    ensures { settled result more.new held.new ≡ settles tree.now list.now filed.now.earlier.now filed.now.holds.now filed.now.before.now filed.now.latest ends.now (wide_at list.now 0) 2 more.old held.old }
 {
-    let mut left = bytes::wide_at(list, 0);
     let mut at = 2;
-    while 0 < left {
-        let place = search::search(
-            tree,
-            earlier,
-            holds,
-            before,
-            latest,
-            bytes::wide_at(list, at),
-        );
-        if place.statement == 0 {
+    for _ in 0..bytes::wide_at(list, 0) {
+        let Some(place) = filed.search(tree, bytes::wide_at(list, at)) else {
             return false;
-        }
+        };
         bump(more, place.list);
         bump(held, place.statement);
         at = table::at(ends, at);
-        left -= 1;
     }
     true
 }

@@ -2,21 +2,20 @@ use mathlib.Core.Path.{sym, ◌∙◌}
 use native.Mathlib.Omega.{arith}
 use Rattle.joining.proofs.TablesFilled as law
 use Rattle.joining.proofs.bodies.collect.Goals as goal
+use Rattle.joining.proofs.bodies.collect.Goals.{then-tree-gt32768-via-then-tree-gt32768, then-tree-gt32768-via-else-tree-gt32768+then-frames-lt16384, then-tree-gt32768-via-else-tree-gt32768+else-frames-lt16384+then-seen-lt65536}
 
 pub returns-then-tree-gt32768 : goal.returns-then-tree-gt32768
-returns-then-tree-gt32768 c = λ n. law.toured_none (law.tour_long c.args.tree.now c.if-tree-gt32768.true)
-
-pub returns-then-frames-lt16384 : goal.returns-then-frames-lt16384
-returns-then-frames-lt16384 c = λ n. absurd (omega (arith, n.enough, c.if-frames-lt16384.true))
-
-pub returns-then-seen-lt65536 : goal.returns-then-seen-lt65536
-returns-then-seen-lt65536 c = λ n. absurd (omega (arith, n.marks, c.if-seen-lt65536.true))
+returns-then-tree-gt32768 c = λ n. elim c.then-tree-gt32768.branch [
+  | then-tree-gt32768-via-then-tree-gt32768 w ↦ law.toured_none (law.tour_long c.args.tree.now w.if-tree-gt32768.true)
+  | then-tree-gt32768-via-else-tree-gt32768+then-frames-lt16384 w ↦ absurd (omega (arith, n.enough, w.if-frames-lt16384.true))
+  | then-tree-gt32768-via-else-tree-gt32768+else-frames-lt16384+then-seen-lt65536 w ↦ absurd (omega (arith, n.marks, w.if-seen-lt65536.true))
+]
 
 pub loop-bodies-init : goal.loop-bodies-init
 loop-bodies-init c = law.touring_start _ _ _ _ _ _ _ c.if-tree-gt32768.false (omega (arith, c.clear.ensures.0, c.if-seen-lt65536.false)) c.clear.ensures.1 _ c.begin-cursor.ensures
 
 pub returns-then-at-tree : goal.returns-then-at-tree
-returns-then-at-tree c = λ n. law.tour_whole _ _ _ _ _ _ _ _ _ _ _ _ _ _ _ _ c.loop-bodies.invariant c.if-tree-gt32768.false (sym c.is_closed.ensures ∙ c.if-is_closed.true) c.if-deep-eq0.true c.if-at-tree.true (law.ready _ _ _ _ _ _ n _ _ _ c.clear.ensures c.clear-2.ensures c.clear-3.ensures)
+returns-then-at-tree c = λ n. law.tour_whole _ _ _ _ _ _ _ _ _ _ _ _ _ _ _ _ c.loop-bodies.invariant c.if-tree-gt32768.false (sym c.is_closed.ensures ∙ c.if-is_closed.true) c.if-deep-eq0.true c.if-at-tree.true (law.ready _ _ _ _ _ _ n _ _ _ c.clear.ensures (law.cleared _ _ (c.fill.ensures.after (λ y e. e))) (law.cleared _ _ (c.fill-2.ensures.after (λ y e. e))))
 
 pub returns-then-deep-eq0 : goal.returns-then-deep-eq0
 returns-then-deep-eq0 c = λ n. law.toured_none (law.tour_part _ _ _ _ _ _ _ _ _ _ _ _ _ _ _ _ c.loop-bodies.invariant c.if-tree-gt32768.false (sym c.is_closed.ensures ∙ c.if-is_closed.true) c.if-deep-eq0.true c.if-at-tree.false)

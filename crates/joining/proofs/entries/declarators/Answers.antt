@@ -1,3 +1,4 @@
+use mathlib.Core.Logic.{inl, inr}
 use native.Mathlib.Omega.{arith}
 use Rattle.joining.proofs.Listing as law
 use Rattle.joining.proofs.entries.declarators.Goals as goal
@@ -30,7 +31,10 @@ pub returns-in-Done : goal.returns-in-Done
 returns-in-Done c = ((c.loop-e.invariant.low, c.loop-e.invariant.tour.inside), λ met k a b. law.answers_at (law.declaring_ends _ _ _ _ _ _ _ c.loop-e.invariant _ _ c.next.ensures.1 c.in-Done.is met k))
 
 pub returns-in-Refused : goal.returns-in-Refused
-returns-in-Refused c = (tt, λ met k a b. law.answers_lost (law.declaring_refused _ _ _ _ _ _ _ c.loop-e.invariant _ _ c.next.ensures.1 c.in-Refused.is met k))
-
-pub returns-in-Full : goal.returns-in-Full
-returns-in-Full c = (tt, λ met k a b. law.declaring_full _ _ _ _ _ _ _ c.loop-e.invariant _ _ c.next.ensures.1 c.in-Full.is a b)
+returns-in-Refused c = (
+  tt,
+  λ met k a b. elim c.in-Refused.is [
+    | inl e ↦ law.answers_lost (law.declaring_refused _ _ _ _ _ _ _ c.loop-e.invariant _ _ c.next.ensures.1 e met k)
+    | inr e ↦ law.declaring_full _ _ _ _ _ _ _ c.loop-e.invariant _ _ c.next.ensures.1 e a b
+  ],
+)

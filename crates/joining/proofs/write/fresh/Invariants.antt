@@ -5,6 +5,3 @@ use Rattle.joining.proofs.write.fresh.Given as goal
 
 abbrev pub invariant-loop-m : goal.invariant-loop-m
 invariant-loop-m l = free_from l.seen (65535 - l.m) l.m ≡ free_after l.seen l.mark
-
-abbrev pub decreases-loop-m : goal.decreases-loop-m
-decreases-loop-m l = 65535 - l.m

@@ -1,8 +1,9 @@
+use mathlib.Core.Path.{refl}
 use Rattle.joining.proofs.BytesWritten as law
 use Rattle.joining.proofs.write.skips.Goals as goal
 
-pub returns-then-skip : goal.returns-then-skip
-returns-then-skip c = law.skips_passed _ _ _ c.if-skip.true
+pub returns-then-not-skip : goal.returns-then-not-skip
+returns-then-not-skip c = law.skips_else _ _ _ _ c.if-not-skip.true c.at.ensures.0
 
-pub returns : goal.returns
-returns c = law.skips_else _ _ _ _ c.if-skip.false c.at.ensures.0
+pub returns-else-not-skip : goal.returns-else-not-skip
+returns-else-not-skip c = rw c.if-not-skip.false (law.skips_passed _ _ _ refl)

@@ -1,7 +1,7 @@
 use mathlib.Core.Path.{refl, ◌∙◌}
 use Rattle.joining.proofs.BytesWritten as law
 use native.Mathlib.Omega.{arith}
-use Rattle.joining.proofs.write.rest.Goals as goal
+use Rattle.joining.proofs.write.Source.rest.Goals as goal
 
 pub loop-p-init : goal.loop-p-init
 loop-p-init c = (λ h. law.passing_start _ _ _ _ _ _ _ _ _, refl)

@@ -1,8 +1,0 @@
-use Rattle.joining.proofs.BytesWritten as law
-use Rattle.joining.proofs.write.head.Goals as goal
-
-pub returns-then-wide_at-eq0 : goal.returns-then-wide_at-eq0
-returns-then-wide_at-eq0 c = law.head_plain _ _ _ _ _ _ _ _ c.copy-a.ensures _ _ _ c.wide_at.ensures.value c.at.ensures.0 c.wide_at-2.ensures.value c.if-wide_at-eq0.true _ _ c.put_wide-b.ensures
-
-pub returns : goal.returns
-returns c = law.head_const _ _ _ _ _ _ _ _ c.copy-a.ensures _ _ _ c.wide_at.ensures.value c.at.ensures.0 c.wide_at-2.ensures.value c.if-wide_at-eq0.false _ _ _ c.put_wide-b-2.ensures c.fresh-m.ensures _ _ c.declaration-c.ensures
