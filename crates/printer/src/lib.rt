@@ -5,6 +5,7 @@ pub mod entries;
 pub mod frame;
 pub mod layout;
 pub mod names;
+pub mod numbers;
 pub mod out;
 pub mod pass;
 pub mod places;

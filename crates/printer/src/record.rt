@@ -7,7 +7,7 @@ ghost use Rattle.rewritten.specs.Steps.{list_sort};
 ghost use Rattle.printer.specs.Logged.{Recorded};
 ghost use Rattle.printer.specs.Met.{number_of, MetField, MetNode, Leaf, Begun, MetName, MetLiteral, NodeMet, Moved, byte_noted, MarkMet};
 
-use crate::{entries, print};
+use crate::{entries, numbers};
 use rewritten::step::Cursor;
 use rewritten::{look, next, seen, task};
 use tree::bytes;
@@ -15,11 +15,7 @@ use tree::bytes;
 fn cursor_at(at: usize, deep: usize, top: usize) -> Cursor
     ensures { result ≡ record { at = at; deep = deep; top = top } }
 {
-    Cursor {
-        at: at,
-        deep: deep,
-        top: top,
-    }
+    Cursor { at, deep, top }
 }
 
 fn refused() -> Cursor
@@ -45,8 +41,8 @@ fn name_met(
     if what == 0 {
         return refused();
     }
-    entries::keep(log, count, entries::plain(code, at));
-    print::keep(frames, deep, rest);
+    numbers::keep_entry(log, count, entries::plain(code, at));
+    numbers::keep(frames, deep, rest);
     cursor_at(at + 2 + what / 16, deep, rest)
 }
 
@@ -75,8 +71,8 @@ fn literal_met(
     if second == 0 {
         return refused();
     }
-    entries::keep(log, count, entries::literal(at + 1, sort / 16));
-    print::keep(frames, deep, rest);
+    numbers::keep_entry(log, count, entries::literal(at + 1, sort / 16));
+    numbers::keep(frames, deep, rest);
     cursor_at(next + 2 + second / 16, deep, rest)
 }
 
@@ -110,8 +106,8 @@ fn node_met(
     if 0 < code {
         return name_met(tree, frames, log, at + 2, deep, rest, count, code);
     }
-    entries::keep(log, count, entries::head(kind, map));
-    print::keep_short(stack, deep, count);
+    numbers::keep_entry(log, count, entries::head(kind, map));
+    numbers::keep_short(stack, deep, count);
     next::begun(frames, at + 2, deep, rest, what / 16 * 2)
 }
 
@@ -133,8 +129,8 @@ fn list_met(
     if what == 0 {
         return refused();
     }
-    entries::keep(log, count, entries::plain(2, what / 1024));
-    print::keep_short(stack, deep, count);
+    numbers::keep_entry(log, count, entries::plain(2, what / 1024));
+    numbers::keep_short(stack, deep, count);
     next::begun(frames, at + 2, deep, rest, what / 16 * 2 + 1)
 }
 
@@ -152,7 +148,7 @@ fn text_met(
     if what == 0 {
         return refused();
     }
-    entries::keep(log, count, entries::plain(3, at));
+    numbers::keep_entry(log, count, entries::plain(3, at));
     cursor_at(at + 2 + what / 16, deep, rest)
 }
 
@@ -170,7 +166,7 @@ fn number_met(
     if what == 0 {
         return refused();
     }
-    entries::keep(log, count, entries::plain(6, what / 16));
+    numbers::keep_entry(log, count, entries::plain(6, what / 16));
     cursor_at(at + 2, deep, rest)
 }
 
@@ -191,7 +187,7 @@ fn mark_met(
     }
     if seen::is_new_ahead(seen, what) {
         seen::note_ahead(seen, what);
-        entries::keep(log, count, 4);
+        numbers::keep_entry(log, count, 4);
         return cursor_at(at + 2, deep, rest);
     }
     refused()
@@ -202,7 +198,7 @@ fn note_open(stack: &[u16], log: &mut [u32], deep: usize, b: usize)
     ensures { log.new ≡ byte_noted stack.now log.old deep b }
 {
     if 0 < deep {
-        entries::note(log, print::short_at(stack, deep - 1), b);
+        entries::note(log, numbers::short_at(stack, deep - 1), b);
     }
 }
 
@@ -224,7 +220,7 @@ fn byte_met(
         return refused();
     }
     note_open(stack, log, deep, what / 16);
-    entries::keep(log, count, 4);
+    numbers::keep_entry(log, count, 4);
     cursor_at(at + 1, deep, rest)
 }
 
@@ -258,7 +254,7 @@ pub(crate) fn record(
                 }
                 return 0;
             }
-            entries::keep(log, count, entries::closing(top));
+            numbers::keep_entry(log, count, entries::closing(top));
             cursor = cursor_at(at, deep - 1, next::frame_at(frames, deep - 1));
             count += 1;
             continue;
@@ -276,7 +272,7 @@ pub(crate) fn record(
             continue;
         }
         if top % 2 == 1 {
-            entries::keep(log, count, 7);
+            numbers::keep_entry(log, count, 7);
             cursor = cursor_at(at + 1, deep, rest);
             count += 1;
             continue;

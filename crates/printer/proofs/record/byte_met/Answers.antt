@@ -16,7 +16,7 @@ returns c = (
     is = c.byte-what.ensures.0;
     coded = c.byte-what.ensures.1;
     none = λ z. absurd (c.if-what-eq0.false z);
-    some = λ n. record { cursor = c.cursor_at.ensures; logged = rw c.note_open.ensures at (c.keep.ensures (omega arith)) };
+    some = λ n. record { cursor = c.cursor_at.ensures; logged = rw c.note_open.ensures at (c.keep_entry.ensures (omega arith)) };
   },
   λ n. let h = byte_ends _ _ _ _ _ (c.byte-what.ensures.0 0) (c.byte-what.ensures.1 c.if-what-eq0.false) in rw c.cursor_at.ensures (omega arith, omega arith),
 )

@@ -17,7 +17,7 @@ returns c = (
     is = c.list-what.ensures.0;
     coded = c.list-what.ensures.1;
     none = λ z. absurd (c.if-what-eq0.false z);
-    some = λ n. record { cursor = c.begun.ensures.2; framed = c.begun.ensures.1; placed = c.keep_short.ensures h; logged = rw c.plain.ensures at (c.keep.ensures (omega (arith, c.plain.ensures))) };
+    some = λ n. record { cursor = c.begun.ensures.2; framed = c.begun.ensures.1; placed = c.keep_short.ensures h; logged = rw c.plain.ensures at (c.keep_entry.ensures (omega (arith, c.plain.ensures))) };
   },
   λ n. let h = list_ends _ _ _ _ _ (c.list-what.ensures.0 0) (c.list-what.ensures.1 c.if-what-eq0.false) in law.begun_moves c.args.tree.now c.args.frames.now _ _ _ _ h c.begun.ensures.2,
 )

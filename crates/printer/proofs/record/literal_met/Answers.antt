@@ -71,7 +71,7 @@ returns c = (
         is = c.text-second.ensures.0;
         coded = c.text-second.ensures.1;
         none = λ z. absurd (c.if-second-eq0.false z);
-        some = λ k. record { cursor = c.cursor_at.ensures; framed = c.keep-2.ensures; logged = rw c.literal.ensures at (c.keep.ensures (omega (arith, c.literal.ensures))) };
+        some = λ k. record { cursor = c.cursor_at.ensures; framed = c.keep.ensures; logged = rw c.literal.ensures at (c.keep_entry.ensures (omega (arith, c.literal.ensures))) };
       };
     };
   },

@@ -19,7 +19,7 @@ returns-then-is_new_ahead c = (
     is = c.mark-what.ensures.0;
     coded = c.mark-what.ensures.1;
     none = λ z. absurd (c.if-what-eq0.false z);
-    some = λ n. record { new = true; is = sym (found_true c.is_new_ahead.ensures c.if-is_new_ahead.true); twice = λ e. never (sym e); cursor = λ e. c.cursor_at.ensures; noted = λ e. c.note_ahead.ensures; logged = λ e. c.keep.ensures (omega arith) };
+    some = λ n. record { new = true; is = sym (found_true c.is_new_ahead.ensures c.if-is_new_ahead.true); twice = λ e. never (sym e); cursor = λ e. c.cursor_at.ensures; noted = λ e. c.note_ahead.ensures; logged = λ e. c.keep_entry.ensures (omega arith) };
   },
   λ n. let h = mark_ends _ _ _ _ _ (c.mark-what.ensures.0 0) (c.mark-what.ensures.1 c.if-what-eq0.false) in rw c.cursor_at.ensures (omega arith, omega arith),
 )

@@ -24,7 +24,7 @@ returns c = (
         is = c.text-what.ensures.0;
         coded = c.text-what.ensures.1;
         none = λ z. absurd (c.if-what-eq0.false z);
-        some = λ n. record { cursor = c.cursor_at.ensures; framed = c.keep-2.ensures; logged = rw p at (c.keep.ensures (omega (arith, p, h))) };
+        some = λ n. record { cursor = c.cursor_at.ensures; framed = c.keep.ensures; logged = rw p at (c.keep_entry.ensures (omega (arith, p, h))) };
       },
   λ n. let h = text_ends _ _ _ _ _ (c.text-what.ensures.0 0) (c.text-what.ensures.1 c.if-what-eq0.false) in rw c.cursor_at.ensures (omega arith, omega arith),
 )

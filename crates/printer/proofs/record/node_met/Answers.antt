@@ -71,7 +71,7 @@ returns c = (
         record {
           code = c.leaf_code-code.result;
           leaf = rw (c.peek-kind.ensures.value, c.peek-map.ensures.value) at c.leaf_code-code.ensures;
-          begun = λ z. record { cursor = c.begun.ensures.2; framed = c.begun.ensures.1; placed = c.keep_short.ensures h; logged = rw e at (c.keep.ensures (omega (arith, e))) };
+          begun = λ z. record { cursor = c.begun.ensures.2; framed = c.begun.ensures.1; placed = c.keep_short.ensures h; logged = rw e at (c.keep_entry.ensures (omega (arith, e))) };
           name = λ z _. absurd (z (omega (arith, c.if-code-gt0.false)));
           literal = λ z. absurd (c.if-code-eq13.false z);
         };

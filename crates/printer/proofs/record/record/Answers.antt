@@ -55,10 +55,10 @@ loop-count-preserved-then-is_closed c = (
   c.loop-count.invariant.2,
   c.loop-count.invariant.3,
   c.loop-count.invariant.4,
-  c.keep.auto.log ∙ c.loop-count.invariant.5,
+  c.keep_entry.auto.numbers ∙ c.loop-count.invariant.5,
   λ p.
       let x = c.loop-count.invariant.6 p in
-      meet.next_as _ _ c.cursor_at-cursor.ensures refl refl (c.keep.ensures (meet.closing_fits (eqb (c.loop-count.cursor.top % 2) 0) _ c.closing.ensures)) (meet.closed_goes _ _ _ _ _ _ _ _ _ x.reading x.recording p.enough c.loop-count.invariant.1 (moves.found_true c.is_closed.ensures c.if-is_closed.true) c.if-deep-eq0.false _ c.frame_at.ensures _ c.closing.ensures),
+      meet.next_as _ _ c.cursor_at-cursor.ensures refl refl (c.keep_entry.ensures (meet.closing_fits (eqb (c.loop-count.cursor.top % 2) 0) _ c.closing.ensures)) (meet.closed_goes _ _ _ _ _ _ _ _ _ x.reading x.recording p.enough c.loop-count.invariant.1 (moves.found_true c.is_closed.ensures c.if-is_closed.true) c.if-deep-eq0.false _ c.frame_at.ensures _ c.closing.ensures),
 )
 
 pub returns-then-cursor-eq0 : goal.returns-then-cursor-eq0
@@ -83,7 +83,7 @@ pub loop-count-smaller-then-top-eq1 : goal.loop-count-smaller-then-top-eq1
 loop-count-smaller-then-top-eq1 c = let h = task.hole_ends _ _ _ _ _ (task.next_hole _ _ _ (moves.found_true c.is_closed.ensures c.if-is_closed.false) _ c.place_next-place.ensures c.if-place-lt33.false c.if-top-eq1.true) refl in rw c.cursor_at-cursor-then-top-eq1.ensures (omega arith)
 
 pub loop-count-preserved-then-top-eq1 : goal.loop-count-preserved-then-top-eq1
-loop-count-preserved-then-top-eq1 c = let h = task.hole_ends _ _ _ _ _ (task.next_hole _ _ _ (moves.found_true c.is_closed.ensures c.if-is_closed.false) _ c.place_next-place.ensures c.if-place-lt33.false c.if-top-eq1.true) refl in (rw c.cursor_at-cursor-then-top-eq1.ensures h, rw c.cursor_at-cursor-then-top-eq1.ensures (omega (arith, c.loop-count.invariant.1)), c.loop-count.invariant.2, c.loop-count.invariant.3, c.loop-count.invariant.4, c.keep-then-top-eq1.auto.log ∙ c.loop-count.invariant.5, λ p. let x = c.loop-count.invariant.6 p in meet.next_as _ _ c.cursor_at-cursor-then-top-eq1.ensures refl refl (c.keep-then-top-eq1.ensures (omega arith)) (meet.hole_goes _ _ _ _ _ _ _ _ _ x.reading x.recording p.enough c.loop-count.invariant.1 (moves.found_true c.is_closed.ensures c.if-is_closed.false) _ c.rest_of-rest.ensures (task.next_hole _ _ _ (moves.found_true c.is_closed.ensures c.if-is_closed.false) _ c.place_next-place.ensures c.if-place-lt33.false c.if-top-eq1.true)))
+loop-count-preserved-then-top-eq1 c = let h = task.hole_ends _ _ _ _ _ (task.next_hole _ _ _ (moves.found_true c.is_closed.ensures c.if-is_closed.false) _ c.place_next-place.ensures c.if-place-lt33.false c.if-top-eq1.true) refl in (rw c.cursor_at-cursor-then-top-eq1.ensures h, rw c.cursor_at-cursor-then-top-eq1.ensures (omega (arith, c.loop-count.invariant.1)), c.loop-count.invariant.2, c.loop-count.invariant.3, c.loop-count.invariant.4, c.keep_entry-then-top-eq1.auto.numbers ∙ c.loop-count.invariant.5, λ p. let x = c.loop-count.invariant.6 p in meet.next_as _ _ c.cursor_at-cursor-then-top-eq1.ensures refl refl (c.keep_entry-then-top-eq1.ensures (omega arith)) (meet.hole_goes _ _ _ _ _ _ _ _ _ x.reading x.recording p.enough c.loop-count.invariant.1 (moves.found_true c.is_closed.ensures c.if-is_closed.false) _ c.rest_of-rest.ensures (task.next_hole _ _ _ (moves.found_true c.is_closed.ensures c.if-is_closed.false) _ c.place_next-place.ensures c.if-place-lt33.false c.if-top-eq1.true)))
 
 pub returns-then-cursor-eq0-2 : goal.returns-then-cursor-eq0-2
 returns-then-cursor-eq0-2 c = λ a b d e f h i j. let p : meet.Lent _ _ _ _ _ _ _ = record { kinds = a; fields = b; bits = d; enough = e; marks = f; clean = h; depths = i; numbers = j } in let x = c.loop-count.invariant.6 p in law.recorded_no _ _ (meet.text_refused _ _ _ _ _ _ _ _ _ x.reading x.recording p.enough c.loop-count.invariant.1 (moves.found_true c.is_closed.ensures c.if-is_closed.false) _ c.rest_of-rest.ensures _ _ c.if-top-eq1.false c.if-class-eq5.true c.text_met-cursor.ensures.0 c.if-cursor-eq0-2.true)

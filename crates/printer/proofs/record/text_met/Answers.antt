@@ -19,7 +19,7 @@ returns c = (
     is = c.text-what.ensures.0;
     coded = c.text-what.ensures.1;
     none = λ z. absurd (c.if-what-eq0.false z);
-    some = λ n. record { cursor = c.cursor_at.ensures; logged = rw c.plain.ensures at (c.keep.ensures (omega (arith, c.plain.ensures))) };
+    some = λ n. record { cursor = c.cursor_at.ensures; logged = rw c.plain.ensures at (c.keep_entry.ensures (omega (arith, c.plain.ensures))) };
   },
   λ n. let h = text_ends _ _ _ _ _ (c.text-what.ensures.0 0) (c.text-what.ensures.1 c.if-what-eq0.false) in rw c.cursor_at.ensures (omega arith, omega arith),
 )
