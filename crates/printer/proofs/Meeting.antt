@@ -1,5 +1,7 @@
 -- What the first pass meets: each sort is a step of the reader, and what is kept of it is what the step adds.
 -- Assumes nothing.
+use Rattle.std.specs.Prelude.{Option, Some, None}
+use Rattle.std.proofs.lemmas.Option.{none-some}
 use mathlib.Core.Path.{◌≡◌, refl, sym, ap, ap₂, ◌∙◌}
 use mathlib.Core.Bool.{Bool, true, false, cond}
 use mathlib.Core.List.{List, [], ◌∷◌, ◌++◌}
@@ -30,7 +32,7 @@ use Rattle.printer.proofs.Collected.{made}
 use Rattle.printer.proofs.Leaves as leaf
 use Rattle.printer.proofs.Logging.{code_of, above_of, entries_of_lem}
 use Rattle.printer.proofs.TextsRead.{text_read}
-use Rattle.printer.proofs.Recording.{places_to, made_in_of, Went, went_one, Kept, Recording, next_more, next_opened, next_closed, closing_goes, Noted, byte_noted_lem}
+use Rattle.printer.proofs.Recording.{same_some, places_to, made_in_of, Went, went_one, Kept, Recording, next_more, next_opened, next_closed, closing_goes, Noted, byte_noted_lem}
 
 -- ---- further on
 
@@ -145,57 +147,57 @@ module _ (l fs seen stack log : List ℕ) (c : Cursor) (frames : ℕ) (v : Bool)
         }
 
     -- nothing that may stand there
-    none_stands : (what : ℕ) → task.InTask l c.at c.top what → (r : Cursor) → (what ≡ 0 → r.at ≡ 0) → ((what ≡ 0 → ⊥) → r.at ≡ 0 → ⊥) → r.at ≡ 0 → false ≡ v
+    none_stands : (what : ℕ) → task.InTask l c.at c.top what → (r : Option Cursor) → (what ≡ 0 → r ≡ None) → ((what ≡ 0 → ⊥) → r ≡ None → ⊥) → r ≡ None → false ≡ v
     none_stands what a r none some z = by_same what 0 (λ e. task.none_reads l fs seen c frames v g what a more e) (λ n. absurd (some n z))
 
     -- ---- a text
 
-    module _ (later : List ℕ) (r : Cursor) (even : c.top % 2 ≡ 1 → ⊥) (class : c.top / 64 % 16 ≡ 5) (m : MetField l Sort.text c.at 3 (λ what. Leaf log later count (number_of 3 (c.at % 65536) 0) (c.at + 2 + what / 16) c.deep rest r) r) where
+    module _ (later : List ℕ) (r : Option Cursor) (even : c.top % 2 ≡ 1 → ⊥) (class : c.top / 64 % 16 ≡ 5) (m : MetField l Sort.text c.at 3 (λ what. Leaf log later count (number_of 3 (c.at % 65536) 0) (c.at + 2 + what / 16) c.deep rest r) r) where
       text_in : task.InTask l c.at c.top m.what
       text_in = task.next_text l c.at c.top more even m.what class m.is
 
-      pub text_refused : r.at ≡ 0 → false ≡ v
-      text_refused = none_stands m.what text_in r m.none (λ n z. let e : r.at ≡ c.at + 2 + m.what / 16 = ap (λ (x : Cursor). x.at) (m.some n).cursor in omega arith)
+      pub text_refused : r ≡ None → false ≡ v
+      text_refused = none_stands m.what text_in r m.none (λ n z. none-some _ (sym z ∙ (m.some n).cursor))
 
-      pub text_goes : (r.at ≡ 0 → ⊥) → Next l fs seen stack later r frames v count
+      pub text_goes : (r' : Cursor) → r ≡ Some r' → Next l fs seen stack later r' frames v count
       unfolding folded collect entries_for
-      text_goes z =
-          let n : m.what ≡ 0 → ⊥ = λ e. z (m.none e) in
+      text_goes r' z =
+          let n : m.what ≡ 0 → ⊥ = λ e. none-some r' (sym (m.none e) ∙ z) in
           let k : m.what % 16 ≡ 3 = m.coded n in
           let d : Cursor = record { at = c.at + 2 + m.what / 16; deep = c.deep; top = rest } in
           let o = task.text_goes l fs c frames g.tour m.what text_in w.short enough rest left k in
           let p : c.at % 65536 < 65536 = omega arith in
           let t : take (m.what / 16) (drop (c.at + 2) l) ≡ text_at_of l (c.at % 65536) = text_read l c.at c.at (m.what / 16) refl o.stands.1 ∙ ap (text_at_of l) (sym at_within) in
-          rw ((m.some n).cursor, (m.some n).logged) (record {
+          rw (same_some r' _ (sym z ∙ (m.some n).cursor), (m.some n).logged) (record {
             reading = task.text_reads l fs seen c frames v g m.what text_in w.short enough rest left k;
             recording = add_more l fs fs stack log c d count (event_in l (Text (c.at + 2) (m.what / 16)) ∷ []) (went_one l fs fs c d (Text (c.at + 2) (m.what / 16)) o) w log w.kept 3 (c.at % 65536) 0 (omega arith) p (omega arith) (omega (arith, room)) (o.inside g.tour.inside) refl (omega arith) (omega (arith, at_within, at_short)) refl (ap (λ (x : List ℕ). made (places_to l log stack c.deep) (entries_to l log count ++ (Entry.text x ∷ []))) t);
           })
 
     -- ---- a number
 
-    module _ (later : List ℕ) (r : Cursor) (place : ℕ) (next : place ≡ place_next l c.at c.top) (high : 33 ≤ place) (even : c.top % 2 ≡ 1 → ⊥) (class : 2 < c.top / 64 % 16 → 9 < c.top / 64 % 16) (m : MetField l Sort.number c.at 6 (λ what. Leaf log later count (number_of 6 (what / 16 % 65536) 0) (c.at + 2) c.deep rest r) r) where
+    module _ (later : List ℕ) (r : Option Cursor) (place : ℕ) (next : place ≡ place_next l c.at c.top) (high : 33 ≤ place) (even : c.top % 2 ≡ 1 → ⊥) (class : 2 < c.top / 64 % 16 → 9 < c.top / 64 % 16) (m : MetField l Sort.number c.at 6 (λ what. Leaf log later count (number_of 6 (what / 16 % 65536) 0) (c.at + 2) c.deep rest r) r) where
       number_in : task.InTask l c.at c.top m.what
       number_in = task.next_number l c.at c.top more place next high even class m.what m.is
 
-      pub number_refused : r.at ≡ 0 → false ≡ v
-      number_refused = none_stands m.what number_in r m.none (λ n z. let e : r.at ≡ c.at + 2 = ap (λ (x : Cursor). x.at) (m.some n).cursor in omega arith)
+      pub number_refused : r ≡ None → false ≡ v
+      number_refused = none_stands m.what number_in r m.none (λ n z. none-some _ (sym z ∙ (m.some n).cursor))
 
-      pub number_goes : (r.at ≡ 0 → ⊥) → Next l fs seen stack later r frames v count
+      pub number_goes : (r' : Cursor) → r ≡ Some r' → Next l fs seen stack later r' frames v count
       unfolding folded collect entries_for
-      number_goes z =
-          let n : m.what ≡ 0 → ⊥ = λ e. z (m.none e) in
+      number_goes r' z =
+          let n : m.what ≡ 0 → ⊥ = λ e. none-some r' (sym (m.none e) ∙ z) in
           let k : m.what % 16 ≡ 6 = m.coded n in
           let d : Cursor = record { at = c.at + 2; deep = c.deep; top = rest } in
           let o = task.number_goes l fs c frames g.tour m.what number_in w.short enough rest left k in
           let t : m.what / 16 ≡ m.what / 16 % 65536 = omega (arith, o.stands.1) in
-          rw ((m.some n).cursor, (m.some n).logged) (record {
+          rw (same_some r' _ (sym z ∙ (m.some n).cursor), (m.some n).logged) (record {
             reading = task.number_reads l fs seen c frames v g m.what number_in w.short enough rest left k;
             recording = add_more l fs fs stack log c d count (event_in l (Number (m.what / 16)) ∷ []) (went_one l fs fs c d (Number (m.what / 16)) o) w log w.kept 6 (m.what / 16 % 65536) 0 (omega arith) (omega arith) (omega arith) (omega (arith, room)) (o.inside g.tour.inside) refl (omega arith) tt refl (ap (λ (x : ℕ). made (places_to l log stack c.deep) (entries_to l log count ++ (Entry.number x ∷ []))) t);
           })
 
     -- ---- a mark
 
-    module _ (after later : List ℕ) (r : Cursor) (even : c.top % 2 ≡ 1 → ⊥) (class : c.top / 64 % 16 ≡ 6) (m : MetField l Sort.mark c.at 4 (λ what. MarkMet seen after log later c.at c.deep rest count what r) r) where
+    module _ (after later : List ℕ) (r : Option Cursor) (even : c.top % 2 ≡ 1 → ⊥) (class : c.top / 64 % 16 ≡ 6) (m : MetField l Sort.mark c.at 4 (λ what. MarkMet seen after log later c.at c.deep rest count what r) r) where
       mark_in_lem : task.InTask l c.at c.top m.what
       mark_in_lem = task.next_mark_lem l c.at c.top more even m.what class m.is
 
@@ -203,43 +205,43 @@ module _ (l fs seen stack log : List ℕ) (c : Cursor) (frames : ℕ) (v : Bool)
       by_bool true f h = f refl
       by_bool false f h = h refl
 
-      pub mark_refused : r.at ≡ 0 → false ≡ v
+      pub mark_refused : r ≡ None → false ≡ v
       mark_refused z =
           by_same m.what 0
           (λ e. task.none_reads l fs seen c frames v g m.what mark_in_lem more e)
           (λ n.
           let s = m.some n in
           by_bool s.new
-          (λ t. absurd (let e : r.at ≡ c.at + 2 = ap (λ (x : Cursor). x.at) (s.cursor t) in omega arith))
+          (λ t. absurd (none-some _ (sym z ∙ s.cursor t)))
           (λ f. ahead_twice l fs seen c frames v g more m.what (λ _. mark_in_lem) (λ y. let k : m.what % 16 ≡ 4 = m.coded n in omega arith) w.short enough s.new s.is f))
 
-      pub mark_goes : (r.at ≡ 0 → ⊥) → Next l fs after stack later r frames v count
+      pub mark_goes : (r' : Cursor) → r ≡ Some r' → Next l fs after stack later r' frames v count
       unfolding folded collect entries_for
-      mark_goes z =
-          let n : m.what ≡ 0 → ⊥ = λ e. z (m.none e) in
+      mark_goes r' z =
+          let n : m.what ≡ 0 → ⊥ = λ e. none-some r' (sym (m.none e) ∙ z) in
           let k : m.what % 16 ≡ 4 = m.coded n in
           let s = m.some n in
-          let t : s.new ≡ true = by_bool s.new (λ e. e) (λ f. absurd (z (s.twice f))) in
+          let t : s.new ≡ true = by_bool s.new (λ e. e) (λ f. absurd (none-some r' (sym (s.twice f) ∙ z))) in
           let d : Cursor = record { at = c.at + 2; deep = c.deep; top = rest } in
           let o = task.mark_goes l fs c frames g.tour m.what mark_in_lem w.short enough rest left k in
-          rw (s.cursor t, s.logged t) (record {
+          rw (same_some r' _ (sym z ∙ s.cursor t), s.logged t) (record {
             reading = task.mark_reads l fs seen c frames v g m.what mark_in_lem w.short enough rest left k s.new s.is t after (s.noted t);
             recording = add_more l fs fs stack log c d count (event_in l (Mark (m.what / 16)) ∷ []) (went_one l fs fs c d (Mark (m.what / 16)) o) w log w.kept 4 0 0 (omega arith) (omega arith) (omega arith) (omega (arith, room)) (o.inside g.tour.inside) refl (omega arith) tt refl refl;
           })
 
     -- ---- a byte
 
-    module _ (later : List ℕ) (r : Cursor) (even : c.top % 2 ≡ 1 → ⊥) (low : 6 < c.top / 64 % 16) (high : c.top / 64 % 16 < 10) (m : MetField l (Sort.byte (c.top / 64 % 16 - 7) (c.top / 2 % 32)) c.at 5 (λ what. Leaf (byte_noted stack log c.deep (what / 16)) later count 4 (c.at + 1) c.deep rest r) r) where
+    module _ (later : List ℕ) (r : Option Cursor) (even : c.top % 2 ≡ 1 → ⊥) (low : 6 < c.top / 64 % 16) (high : c.top / 64 % 16 < 10) (m : MetField l (Sort.byte (c.top / 64 % 16 - 7) (c.top / 2 % 32)) c.at 5 (λ what. Leaf (byte_noted stack log c.deep (what / 16)) later count 4 (c.at + 1) c.deep rest r) r) where
       byte_in_lem : task.InTask l c.at c.top m.what
       byte_in_lem = task.next_byte l c.at c.top more even m.what low high m.is
 
-      pub byte_refused : r.at ≡ 0 → false ≡ v
-      byte_refused = none_stands m.what byte_in_lem r m.none (λ n z. let e : r.at ≡ c.at + 1 = ap (λ (x : Cursor). x.at) (m.some n).cursor in omega arith)
+      pub byte_refused : r ≡ None → false ≡ v
+      byte_refused = none_stands m.what byte_in_lem r m.none (λ n z. none-some _ (sym z ∙ (m.some n).cursor))
 
-      pub byte_goes : (r.at ≡ 0 → ⊥) → Next l fs seen stack later r frames v count
+      pub byte_goes : (r' : Cursor) → r ≡ Some r' → Next l fs seen stack later r' frames v count
       unfolding folded collect entries_for
-      byte_goes z =
-          let n : m.what ≡ 0 → ⊥ = λ e. z (m.none e) in
+      byte_goes r' z =
+          let n : m.what ≡ 0 → ⊥ = λ e. none-some r' (sym (m.none e) ∙ z) in
           let k : m.what % 16 ≡ 5 = m.coded n in
           let b : ℕ = m.what / 16 in
           let d : Cursor = record { at = c.at + 1; deep = c.deep; top = rest } in
@@ -247,29 +249,29 @@ module _ (l fs seen stack log : List ℕ) (c : Cursor) (frames : ℕ) (v : Bool)
           let i : d.at ≤ length l = o.inside g.tour.inside in
           let f : count ≤ length log = omega (arith, room, at_short, w.kept.numbers) in
           let y : Noted l stack log (byte_noted stack log c.deep b) c count b c.deep = byte_noted_lem l stack log c count w.kept b o.stands.1 f c.deep refl in
-          rw ((m.some n).cursor, (m.some n).logged) (record {
+          rw (same_some r' _ (sym z ∙ (m.some n).cursor), (m.some n).logged) (record {
             reading = task.byte_reads l fs seen c frames v g m.what byte_in_lem w.short enough rest left k;
             recording = add_more l fs fs stack log c d count (event_in l (Byte b) ∷ []) (went_one l fs fs c d (Byte b) o) w (byte_noted stack log c.deep b) y.kept 4 0 0 (omega arith) (omega arith) (omega arith) (omega (arith, room)) i refl (omega arith) tt refl (ap (λ (s : Made). made s.open_places (s.made ++ (Entry.quiet ∷ []))) (sym y.same));
           })
 
     -- ---- a list
 
-    module _ (fs' stack' later : List ℕ) (r : Cursor) (even : c.top % 2 ≡ 1 → ⊥) (low : 2 < c.top / 64 % 16) (high : c.top / 64 % 16 < 5) (holes : Bool) (gaps : holes ≡ eqb (c.top / 64 % 16) 4) (m : MetField l (list_sort holes (c.top / 2 % 32 % 32)) c.at 2 (λ what. Begun fs fs' stack stack' log later count (number_of 2 (what / 1024 % 65536) 0) (c.at + 2) c.deep rest (what / 16 * 2 + 1) r) r) where
+    module _ (fs' stack' later : List ℕ) (r : Option Cursor) (even : c.top % 2 ≡ 1 → ⊥) (low : 2 < c.top / 64 % 16) (high : c.top / 64 % 16 < 5) (holes : Bool) (gaps : holes ≡ eqb (c.top / 64 % 16) 4) (m : MetField l (list_sort holes (c.top / 2 % 32 % 32)) c.at 2 (λ what. Begun fs fs' stack stack' log later count (number_of 2 (what / 1024 % 65536) 0) (c.at + 2) c.deep rest (what / 16 * 2 + 1) r) r) where
       list_in_lem : task.InTask l c.at c.top m.what
       list_in_lem = task.next_list l c.at c.top more even m.what low high holes gaps m.is
 
-      pub list_refused : r.at ≡ 0 → false ≡ v
-      list_refused = none_stands m.what list_in_lem r m.none (λ n z. let e : r.at ≡ c.at + 2 = ap (λ (x : Cursor). x.at) (m.some n).cursor in omega arith)
+      pub list_refused : r ≡ None → false ≡ v
+      list_refused = none_stands m.what list_in_lem r m.none (λ n z. none-some _ (sym z ∙ (m.some n).cursor))
 
-      pub list_goes : (r.at ≡ 0 → ⊥) → Next l fs' seen stack' later r frames v count
+      pub list_goes : (r' : Cursor) → r ≡ Some r' → Next l fs' seen stack' later r' frames v count
       unfolding folded collect entries_for
-      list_goes z =
-          let n : m.what ≡ 0 → ⊥ = λ e. z (m.none e) in
+      list_goes r' z =
+          let n : m.what ≡ 0 → ⊥ = λ e. none-some r' (sym (m.none e) ∙ z) in
           let k : m.what % 16 ≡ 2 = m.coded n in
           let b = m.some n in
           let d : Cursor = record { at = c.at + 2; deep = c.deep + 1; top = m.what / 16 * 2 + 1 } in
           let o = task.list_goes l fs c frames g.tour m.what list_in_lem w.short enough rest left k in
-          let e : r ≡ d = b.cursor ∙ ap (λ (x : ℕ). record { at = c.at + 2; deep = x; top = m.what / 16 * 2 + 1 }) (task.list_deeper l fs c frames g.tour m.what list_in_lem w.short enough k) in
+          let e : r' ≡ d = same_some r' _ (sym z ∙ b.cursor) ∙ ap (λ (x : ℕ). record { at = c.at + 2; deep = x; top = m.what / 16 * 2 + 1 }) (task.list_deeper l fs c frames g.tour m.what list_in_lem w.short enough k) in
           let i : d.at ≤ length l = o.inside g.tour.inside in
           let q : c.deep < length stack = omega (arith, room, i, w.short, w.kept.places, g.tour.room) in
           let t : m.what / 16 / 64 ≡ m.what / 1024 % 65536 = omega (arith, o.stands.1) in
@@ -280,7 +282,7 @@ module _ (l fs seen stack log : List ℕ) (c : Cursor) (frames : ℕ) (v : Bool)
 
     -- ---- a node
 
-    module _ (fs' stack' later : List ℕ) (r : Cursor) (place : ℕ) (next : place ≡ place_next l c.at c.top) (low : place < 33) (m : MetNode l place c.at (λ what. NodeMet l fs fs' stack stack' log later c.at c.deep rest count what r) r) where
+    module _ (fs' stack' later : List ℕ) (r : Option Cursor) (place : ℕ) (next : place ≡ place_next l c.at c.top) (low : place < 33) (m : MetNode l place c.at (λ what. NodeMet l fs fs' stack stack' log later c.at c.deep rest count what r) r) where
       node_in : task.InTask l c.at c.top m.what
       node_in = task.next_node l c.at c.top more place next low m.what m.is
 
@@ -289,13 +291,13 @@ module _ (l fs seen stack log : List ℕ) (c : Cursor) (frames : ℕ) (v : Bool)
         node_code = m.coded n
 
         -- one that is no leaf begins
-        begun_goes : (m.some n).code ≡ 0 → Next l fs' seen stack' later r frames v count
+        begun_goes : (m.some n).code ≡ 0 → (r' : Cursor) → r ≡ Some r' → Next l fs' seen stack' later r' frames v count
         unfolding folded collect entries_for
-        begun_goes z =
+        begun_goes z r' u =
             let b = (m.some n).begun z in
             let d : Cursor = record { at = c.at + 2; deep = c.deep + 1; top = m.what / 16 * 2 } in
             let o = task.node_goes l fs c frames g.tour m.what node_in w.short enough rest left node_code in
-            let e : r ≡ d = b.cursor ∙ ap (λ (x : ℕ). record { at = c.at + 2; deep = x; top = m.what / 16 * 2 }) (task.node_deeper l fs c frames g.tour m.what node_in w.short enough node_code) in
+            let e : r' ≡ d = same_some r' _ (sym u ∙ b.cursor) ∙ ap (λ (x : ℕ). record { at = c.at + 2; deep = x; top = m.what / 16 * 2 }) (task.node_deeper l fs c frames g.tour m.what node_in w.short enough node_code) in
             let i : d.at ≤ length l = o.inside g.tour.inside in
             let q : c.deep < length stack = omega (arith, i, w.short, w.kept.places, g.tour.room) in
             let kind : ℕ = byte_at l c.at in
@@ -315,14 +317,14 @@ module _ (l fs seen stack log : List ℕ) (c : Cursor) (frames : ℕ) (v : Bool)
           abbrev name_met : MetName l fs fs' log later (m.some n).code (c.at + 2) c.deep rest count r
           name_met = ((m.some n).name a b).1
 
-          name_refused : r.at ≡ 0 → false ≡ v
+          name_refused : r ≡ None → false ≡ v
           name_refused z = by_same name_met.what 0
               (λ e. leaf.name_none l fs seen c frames v g w.short enough rest left m.what node_in node_code name_leaf.2 name_met.what name_met.is e)
-              (λ f. absurd (let e : r.at ≡ c.at + 2 + 2 + name_met.what / 16 = ap (λ (x : Cursor). x.at) (name_met.some f).cursor in omega arith))
+              (λ f. absurd (none-some _ (sym z ∙ (name_met.some f).cursor)))
 
-          name_goes : (r.at ≡ 0 → ⊥) → Next l fs' seen stack' later r frames v count
-          name_goes z =
-              let f : name_met.what ≡ 0 → ⊥ = λ e. z (name_met.none e) in
+          name_goes : (r' : Cursor) → r ≡ Some r' → Next l fs' seen stack' later r' frames v count
+          name_goes r' z =
+              let f : name_met.what ≡ 0 → ⊥ = λ e. none-some r' (sym (name_met.none e) ∙ z) in
               let k : name_met.what % 16 ≡ 3 = name_met.coded f in
               let x : ℕ = name_met.what in
               let code : ℕ = (m.some n).code in
@@ -334,7 +336,7 @@ module _ (l fs seen stack log : List ℕ) (c : Cursor) (frames : ℕ) (v : Bool)
               let y : bytes_by code ≡ 2 = leaf.name_bytes_lem code name_leaf.3 name_leaf.4 in
               let d : Cursor = record { at = c.at + 2 + 2 + x / 16; deep = c.deep; top = rest } in
               let es : List Event = begins c.at (byte_at l c.at) (byte_at l (c.at + 1)) ∷ Event.text (take (x / 16) (drop (c.at + 2 + 2) l)) ∷ ends ∷ [] in
-              next_as l seen s.cursor s.framed ((m.some n).name a b).0 s.logged (record {
+              next_as l seen (same_some r' _ (sym z ∙ s.cursor)) s.framed ((m.some n).name a b).0 s.logged (record {
                 reading = leaf.name_done l fs seen c frames v g w.short enough rest left m.what node_in node_code name_leaf.2 x name_met.is k;
                 recording = add_more l fs (set fs c.deep rest) stack log c d count es (leaf.name_went l fs seen c frames v g w.short enough rest left m.what node_in node_code name_leaf.2 x name_met.is k) w log w.kept code p 0 (omega (arith, name_leaf.4)) (omega arith) (omega arith) (omega (arith, room)) i (leaf.name_level code c.deep name_leaf.3 name_leaf.4) (omega (arith, y)) (leaf.name_allowed code p c.deep name_leaf.3 name_leaf.4 (omega (arith, u, at_short))) refl
                     (ap₂ (λ (kind map : ℕ). folded collect (made_in_of l stack log c.deep count) (begins c.at kind map ∷ Event.text (take (x / 16) (drop (c.at + 2 + 2) l)) ∷ ends ∷ [])) name_leaf.0 name_leaf.1
@@ -358,12 +360,12 @@ module _ (l fs seen stack log : List ℕ) (c : Cursor) (frames : ℕ) (v : Bool)
             second_is : (h : (sort_met.some f).what ≡ 0 → ⊥) → task.AsField l (c.at + 2 + 1 + 2 + (sort_met.some f).what / 16) Sort.text ((sort_met.some f).some h).what
             second_is h = rw (third ((sort_met.some f).what / 16)) at ((sort_met.some f).some h).is
 
-            literal_goes : (r.at ≡ 0 → ⊥) → Next l fs' seen stack' later r frames v count
-            literal_goes o =
+            literal_goes : (r' : Cursor) → r ≡ Some r' → Next l fs' seen stack' later r' frames v count
+            literal_goes r' o =
                 let first = sort_met.some f in
-                let h : first.what ≡ 0 → ⊥ = λ e. o (first.none e) in
+                let h : first.what ≡ 0 → ⊥ = λ e. none-some r' (sym (first.none e) ∙ o) in
                 let second = first.some h in
-                let j : second.what ≡ 0 → ⊥ = λ e. o (second.none e) in
+                let j : second.what ≡ 0 → ⊥ = λ e. none-some r' (sym (second.none e) ∙ o) in
                 let s = second.some j in
                 let b : ℕ = sort_met.what in
                 let x : ℕ = first.what in
@@ -375,7 +377,7 @@ module _ (l fs seen stack log : List ℕ) (c : Cursor) (frames : ℕ) (v : Bool)
                 let u : p ≡ c.at + 2 + 1 = omega (arith, at_short) in
                 let last : ℕ = c.at + 2 + 1 + 2 + x / 16 + 2 + y / 16 in
                 let d : Cursor = record { at = last; deep = c.deep; top = rest } in
-                let e : r ≡ d = s.cursor ∙ ap (λ (q : ℕ). record { at = q + 2 + y / 16; deep = c.deep; top = rest }) (third (x / 16)) in
+                let e : r' ≡ d = same_some r' _ (sym o ∙ s.cursor) ∙ ap (λ (q : ℕ). record { at = q + 2 + y / 16; deep = c.deep; top = rest }) (third (x / 16)) in
                 let i : last ≤ length l = leaf.literal_inside l fs seen c frames v g w.short enough rest left m.what node_in node_code literal_leaf.2 b sort_met.is kb x first.is kx y (second_is h) ky in
                 let small : b / 16 < 256 = leaf.byte_small l fs seen c frames v g w.short enough rest left m.what node_in node_code literal_leaf.2 b sort_met.is kb in
                 let note : b / 16 ≡ b / 16 % 256 = omega (arith, small) in
@@ -395,25 +397,25 @@ module _ (l fs seen stack log : List ℕ) (c : Cursor) (frames : ℕ) (v : Bool)
                       ∙ ap (λ (xs : List Entry). made (places_to l log stack c.deep) (entries_to l log count ++ xs)) (sym (leaf.literal_for l p (b / 16 % 256))));
                 })
 
-          literal_refused : r.at ≡ 0 → false ≡ v
+          literal_refused : r ≡ None → false ≡ v
           literal_refused o = by_same sort_met.what 0
               (λ e. leaf.byte_none l fs seen c frames v g w.short enough rest left m.what node_in node_code literal_leaf.2 sort_met.what sort_met.is e)
               (λ f. by_same (sort_met.some f).what 0
               (λ e. leaf.first_none l fs seen c frames v g w.short enough rest left m.what node_in node_code literal_leaf.2 sort_met.what sort_met.is (sort_met.coded f) (sort_met.some f).what (sort_met.some f).is e)
               (λ h. by_same ((sort_met.some f).some h).what 0
               (λ e. leaf.second_none l fs seen c frames v g w.short enough rest left m.what node_in node_code literal_leaf.2 sort_met.what sort_met.is (sort_met.coded f) (sort_met.some f).what (sort_met.some f).is ((sort_met.some f).coded h) ((sort_met.some f).some h).what (second_is f h) e)
-              (λ j. absurd (let e : r.at ≡ c.at + 2 + 3 + (sort_met.some f).what / 16 + 2 + ((sort_met.some f).some h).what / 16 = ap (λ (x : Cursor). x.at) (((sort_met.some f).some h).some j).cursor in omega arith))))
+              (λ j. absurd (none-some _ (sym o ∙ (((sort_met.some f).some h).some j).cursor)))))
 
-      pub node_refused : r.at ≡ 0 → false ≡ v
+      pub node_refused : r ≡ None → false ≡ v
       node_refused z = by_same m.what 0
           (λ e. task.none_reads l fs seen c frames v g m.what node_in more e)
           (λ n. by_same (m.some n).code 0
-          (λ e. absurd (let q : r.at ≡ c.at + 2 = ap (λ (x : Cursor). x.at) ((m.some n).begun e).cursor in omega arith))
+          (λ e. absurd (none-some _ (sym z ∙ ((m.some n).begun e).cursor)))
           (λ a. by_same (m.some n).code 13 (λ e. literal_refused n e z) (λ b. name_refused n a b z)))
 
-      pub node_goes : (r.at ≡ 0 → ⊥) → Next l fs' seen stack' later r frames v count
-      node_goes z =
-          let n : m.what ≡ 0 → ⊥ = λ e. z (m.none e) in
+      pub node_goes : (r' : Cursor) → r ≡ Some r' → Next l fs' seen stack' later r' frames v count
+      node_goes r' z =
+          let n : m.what ≡ 0 → ⊥ = λ e. none-some r' (sym (m.none e) ∙ z) in
           by_same (m.some n).code 0
-          (λ e. begun_goes n e)
-          (λ a. by_same (m.some n).code 13 (λ e. literal_goes n e (λ y. z (((m.some n).literal e).1.none y)) z) (λ b. name_goes n a b z))
+          (λ e. begun_goes n e r' z)
+          (λ a. by_same (m.some n).code 13 (λ e. literal_goes n e (λ y. none-some r' (sym (((m.some n).literal e).1.none y) ∙ z)) r' z) (λ b. name_goes n a b r' z))

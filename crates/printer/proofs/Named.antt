@@ -1,7 +1,7 @@
 -- The table of name bytes: its rule over all entries, and names read by it.
 -- Assumes nothing.
 use mathlib.Core.Path.{◌≡◌, refl, sym, ap, ◌∙◌}
-use mathlib.Core.Bool.{Bool, true, false, cond, not}
+use mathlib.Core.Bool.{Bool, true, false, cond, not, ◌&&◌}
 use mathlib.Core.List.{List, [], ◌∷◌}
 use Prim.Native.Nat.{ℕ, suc, ◌+◌, ◌-◌, ◌*◌, ◌/◌, ◌%◌, ◌^◌, ◌<◌, ◌≤◌}
 use native.Mathlib.Omega.{arith}
@@ -11,6 +11,8 @@ use native.Mathlib.Decide.{dec_lt}
 use lib.ListN.{length, get_or, set, take, drop, get_or-eq_default}
 use lib.Seq.{get_or-set_same, get_or-set_other}
 use borrow.Author.Tests.{eq-eqb, ne_eqb}
+use Rattle.std.specs.List.{list_all}
+use Rattle.std.proofs.lemmas.List.{get_or-take, get_or-drop, length-take}
 use Rattle.tree.proofs.Table.{below, below_at}
 use Rattle.printer.specs.Names.{name_bytes, entry_in_of, may_begin, may_follow, all_follow, bare, bits_of, rule_bits, table_byte, table_from}
 use Rattle.printer.specs.Stacks.{EndIs}
@@ -49,31 +51,24 @@ unfolding bits_of
 begins_by b = bits_first (may_begin b) (may_follow b)
 
 follow_right : ℕ → Bool
-follow_right b = cond (eqb (bits_of b / 2) 0) (not (may_follow b)) (may_follow b)
+follow_right b = cond (eqb (bits_of b / 2) 1) (may_follow b) (not (may_follow b))
 
 follows_right : T (below 256 follow_right)
 unfolding follow_right bits_of may_begin may_follow
 follows_right = tt
 
-pub later_not : (t : List ℕ) (b : ℕ) → t ≡ name_bytes → b < 256 → entry_in_of t b / 2 ≡ 0 → may_follow b ≡ false
+follows_by : (t : List ℕ) (b : ℕ) → t ≡ name_bytes → b < 256 → eqb (entry_in_of t b / 2) 1 ≡ may_follow b
 unfolding follow_right
-later_not t b e h z =
-    let y : bits_of b / 2 ≡ 0 = ap (λ (x : ℕ). x / 2) (sym (table_rule b h)) ∙ ap (λ (l : List ℕ). entry_in_of l b / 2) (sym e) ∙ z in
-    go (may_follow b) (rw (eq-eqb (bits_of b / 2) 0 y) at (below_at follow_right 256 follows_right b h))
+follows_by t b e h =
+    ap (λ (l : List ℕ). eqb (entry_in_of l b / 2) 1) e
+    ∙ ap (λ (x : ℕ). eqb (x / 2) 1) (table_rule b h)
+    ∙ go (eqb (bits_of b / 2) 1) (may_follow b) (below_at follow_right 256 follows_right b h)
   where
-    go : (a : Bool) → T (not a) → a ≡ false
-    go true u = absurd u
-    go false u = refl
-
-pub later_so : (t : List ℕ) (b : ℕ) → t ≡ name_bytes → b < 256 → (entry_in_of t b / 2 ≡ 0 → ⊥) → may_follow b ≡ true
-unfolding follow_right
-later_so t b e h n =
-    let y : bits_of b / 2 ≡ 0 → ⊥ = λ z. n (ap (λ (l : List ℕ). entry_in_of l b / 2) e ∙ ap (λ (x : ℕ). x / 2) (table_rule b h) ∙ z) in
-    go (may_follow b) (rw (ne_eqb (bits_of b / 2) 0 y) at (below_at follow_right 256 follows_right b h))
-  where
-    go : (a : Bool) → T a → a ≡ true
-    go true u = refl
-    go false u = absurd u
+    go : (x y : Bool) → T (cond x y (not y)) → x ≡ y
+    go true true u = refl
+    go true false u = absurd u
+    go false true u = absurd u
+    go false false u = refl
 
 pub first_so : (t : List ℕ) (b : ℕ) → t ≡ name_bytes → b < 256 → entry_in_of t b % 2 ≡ 1 → may_begin b ≡ true
 first_so t b e h o =
@@ -88,17 +83,28 @@ first_not t b e h n =
 -- ---- a part of the tree
 
 module _ (l : List ℕ) (i e : ℕ) where
-  pub follow_not : i < e → e ≤ length l → may_follow (get_or l i 0) ≡ false → all_follow (take (e - i) (drop i l)) ≡ false
-  unfolding all_follow
-  follow_not h g f = ap all_follow (part_step l i e h g) ∙ rw f
-
-  pub follow_on : i < e → e ≤ length l → may_follow (get_or l i 0) ≡ true → all_follow (take (e - i) (drop i l)) ≡ all_follow (take (e - (i + 1)) (drop (i + 1) l))
-  unfolding all_follow
-  follow_on h g f = ap all_follow (part_step l i e h g) ∙ rw f
-
   pub follow_end : e ≤ i → all_follow (take (e - i) (drop i l)) ≡ true
   unfolding all_follow
   follow_end h = ap all_follow (part_end l i e h)
+
+part_small : (l : List ℕ) (i n : ℕ) → ((k : ℕ) → get_or l k 0 < 256) → (k : ℕ) → get_or (take n (drop i l)) k 0 < 256
+part_small l i n f k = elim (dec_lt k n) [
+  | yes h ↦ rw (get_or-take n (drop i l) k 0 h, get_or-drop i l k 0) (f (i + k))
+  | no h ↦ let z : get_or (take n (drop i l)) k 0 ≡ 0 = get_or-eq_default (take n (drop i l)) 0 {n = k} (omega (arith, h, length-take n (drop i l))) in omega arith
+]
+
+follow_all : (t : List ℕ) → t ≡ name_bytes → (xs : List ℕ) → ((k : ℕ) → get_or xs k 0 < 256) → list_all (λ x. eqb (entry_in_of t x / 2) 1) xs ≡ all_follow xs
+unfolding all_follow
+follow_all t e [] f = refl
+follow_all t e (b ∷ bs) f = rw (follows_by t b e (f 0)) (go (may_follow b) (follow_all t e bs (λ k. f (suc k))))
+  where
+    go : (m : Bool) → list_all (λ x. eqb (entry_in_of t x / 2) 1) bs ≡ all_follow bs → (m && list_all (λ x. eqb (entry_in_of t x / 2) 1) bs) ≡ cond m (all_follow bs) false
+    go true h = h
+    go false h = refl
+
+-- of a part of a list of bytes
+pub part_follows : (t : List ℕ) → t ≡ name_bytes → (l : List ℕ) → ((k : ℕ) → get_or l k 0 < 256) → (i n : ℕ) → list_all (λ x. eqb (entry_in_of t x / 2) 1) (take n (drop i l)) ≡ all_follow (take n (drop i l))
+part_follows t e l f i n = follow_all t e (take n (drop i l)) (part_small l i n f)
 
 module _ (l : List ℕ) (at n e : ℕ) (w : EndIs l at n e) where
   pub bare_none : e ≤ at → bare (take n (drop at l)) ≡ false

@@ -1,5 +1,7 @@
 -- The loop of the first pass: the reader's, with what is kept of what is met.
 -- Assumes nothing.
+use Rattle.std.specs.Prelude.{Option, Some, None}
+use Rattle.std.proofs.lemmas.Option.{none-some}
 use mathlib.Core.Path.{◌≡◌, refl, sym, ap, ap₂, ◌∙◌}
 use mathlib.Core.Bool.{Bool, true, false}
 use mathlib.Core.List.{List, [], ◌∷◌, ◌++◌, append_assoc}
@@ -30,6 +32,14 @@ use Rattle.printer.specs.Logged.{entries_in, entries_to, deep_by, deep_to, bytes
 use Rattle.printer.specs.Met.{with_byte, byte_noted}
 use Rattle.printer.proofs.Collected.{folded_append, made, node_collected}
 use Rattle.printer.proofs.Logging.{entries_kept, entries_more, deep_more, bytes_more, sound_more, noted_entries, noted_length, noted_deep, noted_bytes, noted_sound}
+
+value_or : {A : Type 0} → A → Option A → A
+value_or d None = d
+value_or d (Some x) = x
+
+pub same_some : {A : Type 0} (x y : A) → Some x ≡ Some y → x ≡ y
+unfolding value_or
+same_some x y e = ap (value_or x) e
 
 -- ---- the places of what is open among the entries: at each depth stands the number of its own
 
@@ -238,14 +248,14 @@ module _ (l fs seen : List ℕ) (c : Cursor) (frames : ℕ) (v : Bool) (g : Read
         let n : made_in_of l stack log c.deep count ≡ made [] (entries t) = sym (ap (folded collect (made_in_of l stack log c.deep count)) y) ∙ x.collected in
         record { entries = ap (λ (s : Made). s.made) n; sound = w.kept.sound }
 
-    pub recorded_yes : v ≡ is_rewritten l → c.at ≡ length l → Recorded l log (count + 1)
+    pub recorded_yes : v ≡ is_rewritten l → c.at ≡ length l → Recorded l log (Some count)
     recorded_yes e a = record {
-      is = lt-ltb 0 (count + 1) (omega arith) ∙ sym (eq-eqb c.at (length l) a) ∙ closed_ends l fs seen c frames v g done z ∙ e;
-      logged = λ n f t q k r. let h : n ≡ count = omega (arith, f) in rw h (all_logged t q k r);
+      is = sym (eq-eqb c.at (length l) a) ∙ closed_ends l fs seen c frames v g done z ∙ e;
+      logged = λ n f t q k r. let h : n ≡ count = sym (same_some count n f) in rw h (all_logged t q k r);
     }
 
   pub ends_early : c.deep ≡ 0 → (c.at ≡ length l → ⊥) → false ≡ v
   ends_early z n = sym (ne_eqb c.at (length l) n) ∙ closed_ends l fs seen c frames v g done z
 
-pub recorded_no : (l log : List ℕ) → false ≡ is_rewritten l → Recorded l log 0
-recorded_no l log e = record { is = e; logged = λ n f. absurd (omega (arith, f)) }
+pub recorded_no : (l log : List ℕ) → false ≡ is_rewritten l → Recorded l log None
+recorded_no l log e = record { is = e; logged = λ n f. absurd (none-some n f) }

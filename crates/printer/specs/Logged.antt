@@ -1,5 +1,5 @@
 -- The entries of a tree as a list of numbers (src/entries.rt), and what the second pass has from the first.
-use Rattle.std.specs.Prelude.{ℕ, zero, suc, ◌+◌, ◌-◌, ◌/◌, ◌%◌, ◌<◌, ◌≤◌, ◌≡◌, List, [], ◌∷◌, ◌++◌, cond, eqb, ltb, length, get_or}
+use Rattle.std.specs.Prelude.{ℕ, zero, suc, ◌+◌, ◌-◌, ◌/◌, ◌%◌, ◌<◌, ◌≤◌, ◌≡◌, List, [], ◌∷◌, ◌++◌, cond, eqb, length, get_or, Option, Some, is_some}
 use Rattle.tree.specs.Tree.{Node}
 use Rattle.tree.specs.Grammar.Stage.{rewritten}
 use Rattle.tree.specs.Read.{wide_at, read_tree}
@@ -107,7 +107,7 @@ pub record Logged (tree log : List ℕ) (n : ℕ) (t : Node) : Type 0 where
   pub entries : entries_to tree log n ≡ entries t
   pub sound : (i : ℕ) → i < n → Sound log i
 
--- r is 0 if the bytes are no rewritten tree; else one more than there are numbers
-pub record Recorded (tree log : List ℕ) (r : ℕ) : Type 0 where
-  pub is : ltb 0 r ≡ is_rewritten tree
-  pub logged : (n : ℕ) → r ≡ suc n → (t : Node) (q k : ℕ) → read_tree rewritten (length tree) tree ≡ got t q k → Logged tree log n t
+-- r is how many numbers there are, if the bytes are a rewritten tree
+pub record Recorded (tree log : List ℕ) (r : Option ℕ) : Type 0 where
+  pub is : is_some r ≡ is_rewritten tree
+  pub logged : (n : ℕ) → r ≡ Some n → (t : Node) (q k : ℕ) → read_tree rewritten (length tree) tree ≡ got t q k → Logged tree log n t

@@ -1,10 +1,12 @@
 -- What the entry hands back, with the slice.
-use Rattle.std.specs.Prelude.{ℕ, ◌-◌, List, ◌++◌, cond, leb, length, replicate}
+use Rattle.std.specs.Prelude.{ℕ, ◌-◌, List, ◌++◌, cond, leb, length, replicate, Result, Ok, Err}
 use Rattle.tree.specs.Tree.{Node}
 use Rattle.tree.specs.Read.{Got}
 use Rattle.tree.specs.Read.Got.{got, refused}
 use Rattle.printer.specs.Text.{text_of}
 use Rattle.printer.specs.declared.Printed.{Printed}
+use Rattle.printer.specs.declared.Refusal.{Refusal}
+use Rattle.printer.specs.declared.Refusal.TheVariants.{NotATree, TextTooLong}
 
 pub record Handed : Type 0 where
   pub answer : ℕ
@@ -21,6 +23,15 @@ not_a_tree = 3
 -- 10, after all others: the text is longer than the slice
 abbrev pub text_too_long : ℕ
 text_too_long = 10
+
+abbrev pub answer_of : Refusal → ℕ
+answer_of NotATree = not_a_tree
+answer_of TextTooLong = text_too_long
+
+-- the length of the text, or the refusal, as C reads it
+abbrev pub printed : Result ℕ Refusal → Printed
+printed (Ok n) = record { answer = 0; text_len = n }
+printed (Err r) = record { answer = answer_of r; text_len = 0 }
 
 -- a refusal: its number, and zeros
 unfoldable pub refusal : ℕ → ℕ → Handed

@@ -18,28 +18,19 @@ pub(crate) fn head(kind: usize, map: usize) -> usize
 pub(crate) fn leaf_code(kind: usize, map: usize, what: usize) -> usize
     ensures { Leafed kind map what result }
 {
-    if what == ONE_TEXT {
-        if map == 1 {
-            if kind == 18 {
-                return 10;
-            }
-            if kind == 19 {
-                return 11;
-            }
-            if kind == 38 {
-                return 12;
-            }
-        }
-        return 0;
+    if what == ONE_TEXT && map == 1 {
+        return match kind {
+            18 => 10,
+            19 => 11,
+            38 => 12,
+            _ => 0,
+        };
     }
-    if what == BYTE_AND_TEXTS {
-        if kind == 22 {
-            if map == 7 {
-                return 13;
-            }
-        }
+    if what == BYTE_AND_TEXTS && kind == 22 && map == 7 {
+        13
+    } else {
+        0
     }
-    0
 }
 
 // That of a list's count, a number, or a position.
@@ -63,36 +54,11 @@ pub(crate) fn closing(top: usize) -> usize
     if top % 2 == 0 { 8 } else { 9 }
 }
 
-// One number more.
-pub(crate) fn keep(log: &mut [u32], i: usize, v: usize)
-    ensures { v < 4294967296 → log.new ≡ set log.old i v }
-{
-    if i < log.len() {
-        log[i] = (v % 4294967296) as u32;
-    }
-}
-
-fn wide(n: u32) -> usize
-    ensures { result ≡ n }
-{
-    n as usize
-}
-
-pub(crate) fn entry_at(log: &[u32], i: usize) -> usize
-    ensures { result ≡ get_or log.now i 0 }
-{
-    if i < log.len() {
-        return wide(log[i]);
-    }
-    0
-}
-
 // The byte of a node goes into its number.
 pub(crate) fn note(log: &mut [u32], i: usize, b: usize)
     ensures { log.new ≡ set log.old i (get_or log.old i 0 % 1048576 + 1048576 * (b % 256)) }
 {
     if i < log.len() {
-        let v = wide(log[i]);
-        log[i] = (v % 1048576 + 1048576 * (b % 256)) as u32;
+        log[i] = log[i] % 1048576 + 1048576 * (b % 256) as u32;
     }
 }

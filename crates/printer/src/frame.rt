@@ -37,49 +37,33 @@ fn without(bits: usize) -> usize
 }
 
 // The next field is done, and this is noted.
+#[tactic(auto, unfolding(crate::specs::Places::noting))]
 fn noting(f: Frame, seen: usize) -> Frame
     ensures { result ≡ noting f seen }
 {
     let rem = without(f.rem);
-    Frame {
-        kind: f.kind,
-        map: f.map,
-        note: f.note,
-        how: f.how,
-        seen: seen,
-        rem: rem,
-        list: f.list,
-    }
+    Frame { seen, rem, ..f }
 }
 
+#[tactic(auto, unfolding(crate::specs::Places::item_seen))]
 fn item_seen(f: Frame, seen: usize) -> Frame
     ensures { result ≡ item_seen f seen }
 {
-    Frame {
-        kind: f.kind,
-        map: f.map,
-        note: f.note,
-        how: f.how,
-        seen: seen,
-        rem: f.rem,
-        list: f.list,
-    }
+    Frame { seen, ..f }
 }
 
+#[tactic(auto, unfolding(crate::specs::Places::listed))]
 fn listed(f: Frame) -> Frame
     ensures { result ≡ listed f }
 {
     Frame {
-        kind: f.kind,
-        map: f.map,
-        note: f.note,
-        how: f.how,
         seen: 0,
-        rem: f.rem,
         list: 1,
+        ..f
     }
 }
 
+#[tactic(auto, unfolding(crate::specs::Places::unlisted))]
 fn unlisted(f: Frame, n: usize) -> Frame
     ensures { result ≡ unlisted f n }
 {
@@ -93,6 +77,7 @@ fn unlisted(f: Frame, n: usize) -> Frame
 }
 
 // A frame and the place of the next quasi, as one number.
+#[tactic(auto, unfolding(crate::specs::Stacks::packed_frame))]
 fn pack(f: Frame, next: usize) -> usize
     ensures { result ≡ packed_frame f next }
 {
@@ -172,6 +157,7 @@ pub(crate) fn list_in(v: usize) -> usize
 }
 
 // The number of the next field.
+#[tactic(auto, unfolding(crate::specs::Places::field_in))]
 pub(crate) fn field_in(v: usize) -> usize
     ensures { result ≡ field_in (frame_in v) }
 {
@@ -222,11 +208,11 @@ pub(crate) fn begun(kind: usize, map: usize, note: usize, seen: usize, how: usiz
     ensures { result ≡ packed_frame (record { kind = kind; map = map; note = note; how = how; seen = seen; rem = map; list = 0 }) 0 }
 {
     let f = Frame {
-        kind: kind,
-        map: map,
-        note: note,
-        how: how,
-        seen: seen,
+        kind,
+        map,
+        note,
+        how,
+        seen,
         rem: map,
         list: 0,
     };

@@ -5,7 +5,7 @@ ghost use Rattle.printer.specs.Layout.{tail_of, close_of, chosen_word};
 ghost use Rattle.printer.specs.Rows.{sort_numbers, slot_numbers, Sorted, Slotted};
 ghost use Rattle.printer.specs.Stacks.{frame_in};
 
-use crate::frame;
+use crate::{frame, numbers};
 
 // Of each kind: head, tail and end of the list, seven binary digits each; whether it is a statement, and whether it stands in
 // parentheses. For a Function its byte tells that: from 64 on it stands again, with byte 0, 1, 2 and any other.
@@ -52,66 +52,35 @@ pub(crate) fn slots() -> [u16; 512]
     SLOTS
 }
 
-fn wide16(n: u16) -> usize
-    ensures { result ≡ n }
-{
-    n as usize
-}
-
-fn wide32(n: u32) -> usize
-    ensures { result ≡ n }
-{
-    n as usize
-}
-
-// An entry of the first table, 0 past its end.
-fn sort_at(sorts: &[u32], i: usize) -> usize
-    ensures { result ≡ get_or sorts.now i 0 }
-{
-    if i < sorts.len() {
-        return wide32(sorts[i]);
-    }
-    0
-}
-
 // The entry of a kind with its byte; right if the table is lent.
 pub(crate) fn sort(sorts: &[u32], kind: usize, note: usize) -> usize
     ensures { sorts.now ≡ sort_numbers → kind < 64 → Sorted kind note result }
 {
-    if kind == 14 {
-        if note < 3 {
-            return sort_at(sorts, 64 + note);
-        }
-        return sort_at(sorts, 67);
-    }
-    sort_at(sorts, kind)
+    let entry = if kind == 14 { 64 + note.min(3) } else { kind };
+    numbers::entry_at(sorts, entry)
 }
 
 pub(crate) fn tail(sorts: &[u32], kind: usize) -> usize
     ensures { sorts.now ≡ sort_numbers → kind < 64 → result ≡ tail_of kind }
 {
-    sort_at(sorts, kind) / 128 % 128
+    numbers::entry_at(sorts, kind) / 128 % 128
 }
 
 pub(crate) fn close(sorts: &[u32], kind: usize) -> usize
     ensures { sorts.now ≡ sort_numbers → kind < 64 → result ≡ close_of kind }
 {
-    sort_at(sorts, kind) / 16384 % 128
+    numbers::entry_at(sorts, kind) / 16384 % 128
 }
 
 // What leads a field, and 128 times its manner; right if the table is lent.
 pub(crate) fn slot(slots: &[u16], kind: usize, field: usize) -> usize
     ensures { slots.now ≡ slot_numbers → kind < 64 → field < 8 → Slotted kind field result }
 {
-    if kind < 64 {
-        if field < 8 {
-            let i = 8 * kind + field;
-            if i < slots.len() {
-                return wide16(slots[i]);
-            }
-        }
+    if kind < 64 && field < 8 {
+        numbers::short_at(slots, 8 * kind + field)
+    } else {
+        0
     }
-    0
 }
 
 // `,` if the last item is a hole.
@@ -125,12 +94,7 @@ fn gap(seen: usize) -> usize
 fn gap_rest(seen: usize, map: usize) -> usize
     ensures { result ≡ cond (eqb seen 2) (cond (eqb (map / 2 % 2) 0) 68 0) 0 }
 {
-    if seen == 2 {
-        if map / 2 % 2 == 0 {
-            return 68;
-        }
-    }
-    0
+    if map / 2 % 2 == 0 { gap(seen) } else { 0 }
 }
 
 // A word by its number; from 100 on it is chosen by the node's byte, its bit map, what was noted, and method form.

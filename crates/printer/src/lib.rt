@@ -5,6 +5,7 @@ pub mod entries;
 pub mod frame;
 pub mod layout;
 pub mod names;
+pub mod numbers;
 pub mod out;
 pub mod pass;
 pub mod places;
@@ -18,18 +19,34 @@ ghost use Rattle.std.specs.Prelude.{◌≡◌, List, ℕ, ◌≤◌, length, rep
 ghost use Rattle.rewritten.specs.Rewritten.{read_rewritten};
 ghost use Rattle.rewritten.specs.Numbers.{place_numbers, plan_numbers, map_numbers};
 ghost use Rattle.printer.specs.Rows.{sort_numbers, slot_numbers, word_numbers};
-ghost use Rattle.printer.specs.Outcome.{handed, fitted, outcome};
+ghost use Rattle.printer.specs.Outcome.{handed, printed, fitted, outcome};
 ghost use Rattle.printer.specs.Stacks.{write, buffer_in};
 ghost use Rattle.printer.specs.Turns.{empty};
 
-use rewritten::{seen, tables};
+use rewritten::tables;
 
-// No rewritten tree; and the text is longer than the slice.
-const NOT_A_TREE: u8 = 3;
+// No rewritten tree; or the text is longer than the slice.
+#[derive(Clone, Copy, Debug, PartialEq, Eq)]
+enum Refusal {
+    NotATree,
+    TextTooLong,
+}
 
-const TEXT_TOO_LONG: u8 = 10;
+impl From<Refusal> for u8 {
+    ghost use Rattle.std.specs.Prelude.{◌≡◌};
+    ghost use Rattle.printer.specs.Outcome.{answer_of};
 
-// Answer 0 and the length of the text; or the refusal, and 0.
+    ghost from_gives = { λ refusal answer. answer ≡ answer_of refusal };
+
+    fn from(refusal: Refusal) -> u8 {
+        match refusal {
+            Refusal::NotATree => 3,
+            Refusal::TextTooLong => 10,
+        }
+    }
+}
+
+// Answer 0 and the length of the text; or the refusal, and 0. Numbers, since C reads them.
 #[repr(C)]
 #[derive(Clone, Copy)]
 pub struct Printed {
@@ -37,21 +54,35 @@ pub struct Printed {
     pub text_len: usize,
 }
 
+impl From<Result<usize, Refusal>> for Printed {
+    ghost use Rattle.std.specs.Prelude.{◌≡◌};
+    ghost use Rattle.printer.specs.Outcome.{printed};
+
+    ghost from_gives = { λ text answer. answer ≡ printed text };
+
+    fn from(text: Result<usize, Refusal>) -> Printed {
+        match text {
+            Ok(text_len) => Printed {
+                answer: 0,
+                text_len,
+            },
+            Err(refusal) => Printed {
+                answer: u8::from(refusal),
+                text_len: 0,
+            },
+        }
+    }
+}
+
 // What was written into zeros is handed back, unless there was more.
-fn finish(text: &mut [u8], spot: usize) -> Printed
-    ensures { (size : ℕ) (bs : List ℕ) → length text.old ≡ size → buffer_in text.old spot ≡ write (buffer_in (replicate size 0) empty) bs → handed result text.new ≡ fitted size bs }
+fn finish(text: &mut [u8], spot: usize) -> Result<usize, Refusal>
+    ensures { (size : ℕ) (bs : List ℕ) → length text.old ≡ size → buffer_in text.old spot ≡ write (buffer_in (replicate size 0) empty) bs → handed (printed result) text.new ≡ fitted size bs }
 {
     if text.len() < spot {
-        seen::clear(text);
-        return Printed {
-            answer: TEXT_TOO_LONG,
-            text_len: 0,
-        };
+        text.fill(0);
+        return Err(Refusal::TextTooLong);
     }
-    Printed {
-        answer: 0,
-        text_len: spot,
-    }
+    Ok(spot)
 }
 
 // Both passes. Right if the tables, 16,384 of everything, 65,536 zeros for marks and 32,768 entries are lent, and the text is
@@ -69,23 +100,18 @@ fn both_passes(
     stack: &mut [u16],
     log: &mut [u32],
     text: &mut [u8],
-) -> Printed
-    ensures { (size : ℕ) → places.now ≡ place_numbers → plans.now ≡ plan_numbers → maps.now ≡ map_numbers → slots.now ≡ slot_numbers → sorts.now ≡ sort_numbers → words.now ≡ word_numbers → text.old ≡ replicate size 0 → 16384 ≤ length frames.old → seen.old ≡ replicate 65536 0 → 16384 ≤ length stack.old → 32768 ≤ length log.old → handed result text.new ≡ outcome (read_rewritten tree.now) size }
+) -> Result<usize, Refusal>
+    ensures { (size : ℕ) → places.now ≡ place_numbers → plans.now ≡ plan_numbers → maps.now ≡ map_numbers → slots.now ≡ slot_numbers → sorts.now ≡ sort_numbers → words.now ≡ word_numbers → text.old ≡ replicate size 0 → 16384 ≤ length frames.old → seen.old ≡ replicate 65536 0 → 16384 ≤ length stack.old → 32768 ≤ length log.old → handed (printed result) text.new ≡ outcome (read_rewritten tree.now) size }
 {
-    let n = record::record(places, plans, maps, tree, frames, seen, stack, log);
-    if n == 0 {
-        return Printed {
-            answer: NOT_A_TREE,
-            text_len: 0,
-        };
-    }
-    let spot = pass::print(slots, sorts, words, tree, log, n - 1, frames, stack, text);
+    let met = record::record(places, plans, maps, tree, frames, seen, stack, log);
+    let count = met.ok_or(Refusal::NotATree)?;
+    let spot = pass::print(slots, sorts, words, tree, log, count, frames, stack, text);
     finish(text, spot)
 }
 
 // The arrays of a call.
-fn fill(tree: &[u8], text: &mut [u8]) -> Printed
-    ensures { (size : ℕ) → text.old ≡ replicate size 0 → handed result text.new ≡ outcome (read_rewritten tree.now) size }
+fn fill(tree: &[u8], text: &mut [u8]) -> Result<usize, Refusal>
+    ensures { (size : ℕ) → text.old ≡ replicate size 0 → handed (printed result) text.new ≡ outcome (read_rewritten tree.now) size }
 {
     let places = tables::places();
     let plans = tables::plans();
@@ -117,6 +143,6 @@ fn fill(tree: &[u8], text: &mut [u8]) -> Printed
 pub fn rest_spread_text(tree: &[u8], text_out: &mut [u8]) -> Printed
     ensures { handed result text_out.new ≡ outcome (read_rewritten tree.now) (length text_out.old) }
 {
-    seen::clear(text_out);
-    fill(tree, text_out)
+    text_out.fill(0);
+    fill(tree, text_out).into()
 }

@@ -11,38 +11,23 @@ const NAME_BYTES: [u8; 64] = [
     0, 0, 0, 0, 0, 0, 0, 0, 0, 0, 0, 0, 0,
 ];
 
-fn wide(b: u8) -> usize
-    ensures { result ≡ b }
-{
-    b as usize
-}
-
 // The two bits of a byte.
-fn entry(table: &[u8], b: usize) -> usize
+fn entry(table: &[u8], b: u8) -> usize
     ensures { result ≡ entry_in_of table.now b }
 {
-    let i = b / 4;
-    if i < table.len() {
-        return (wide(table[i]) >> (2 * (b % 4))) % 4;
-    }
-    0
+    let b = usize::from(b);
+    let four = table.get(b / 4).copied().unwrap_or(0);
+    (usize::from(four) >> (2 * (b % 4))) % 4
 }
 
 // Every byte from i to the end may stand in a later place.
 fn all_follow(table: &[u8], tree: &[u8], from: usize, end: usize) -> bool
     ensures { table.now ≡ name_bytes → end ≤ length tree.now → result ≡ all_follow (take (end - from) (drop from tree.now)) }
 {
-    if tree.len() < end {
-        return false;
+    match tree.get(from..end) {
+        Some(bytes) => bytes.iter().all(|&b| entry(table, b) / 2 == 1),
+        None => true,
     }
-    let mut i = from;
-    while i < end {
-        if entry(table, wide(tree[i])) / 2 == 0 {
-            return false;
-        }
-        i += 1;
-    }
-    true
 }
 
 // A name that is left bare: it has a byte, and each byte may stand where it does.
@@ -50,44 +35,23 @@ pub(crate) fn bare(tree: &[u8], at: usize, n: usize) -> bool
     ensures { result ≡ bare (take n (drop at tree.now)) }
 {
     let end = out::end_of(tree, at, n);
-    if at < end {
-        if at < tree.len() {
-            let table = NAME_BYTES;
-            if entry(&table, wide(tree[at])) % 2 == 1 {
-                return all_follow(&table, tree, at + 1, end);
-            }
-        }
+    let table = NAME_BYTES;
+    if at < end && entry(&table, tree[at]) % 2 == 1 {
+        return all_follow(&table, tree, at + 1, end);
     }
     false
 }
 
 // The bits of a byte by the rule: letters, `$` and `_` both, digits the second.
+#[tactic(auto, unfolding(crate::specs::Names::rule_bits))]
 fn bits(b: usize) -> usize
     ensures { (result ≡ rule_bits b) × (result ≤ 3) }
 {
-    if 64 < b {
-        if b < 91 {
-            return 3;
-        }
-        if b == 95 {
-            return 3;
-        }
-        if 96 < b {
-            if b < 123 {
-                return 3;
-            }
-        }
-        return 0;
+    match b {
+        36 | 65..=90 | 95 | 97..=122 => 3,
+        48..=57 => 2,
+        _ => 0,
     }
-    if b == 36 {
-        return 3;
-    }
-    if 47 < b {
-        if b < 58 {
-            return 2;
-        }
-    }
-    0
 }
 
 // A byte of the table, from the rule.
@@ -106,11 +70,7 @@ fn made(i: usize) -> usize
 pub fn make(table: &mut [u8])
     ensures { length table.old ≡ 64 → table.new ≡ name_bytes }
 {
-    let mut i = 0;
-    if table.len() == 64 {
-        while i < 64 {
-            table[i] = made(i) as u8;
-            i += 1;
-        }
+    for (i, four) in table.iter_mut().enumerate() {
+        *four = made(i) as u8;
     }
 }

@@ -7,12 +7,6 @@ ghost use Rattle.printer.specs.Stacks.{put, write, buffer_in, bytes_in, EndIs};
 
 use crate::words;
 
-fn wide(b: u8) -> usize
-    ensures { result ≡ b }
-{
-    b as usize
-}
-
 // The spot where there was no room for a byte: more than any length.
 const OVER: usize = 18446744073709551615;
 
@@ -35,19 +29,17 @@ fn put_digits(out: &mut [u8], spot: usize, digits: usize) -> usize
 {
     let mut s = spot;
     let mut w = digits;
-    if spot < out.len() {
-        if 7 < out.len() - spot {
-            while 0 < w {
-                out[s] = (w % 256) as u8;
-                s += 1;
-                w = w / 256;
-            }
-            return s;
+    if spot < out.len() && 7 < out.len() - spot {
+        while 0 < w {
+            out[s] = (w % 256) as u8;
+            s += 1;
+            w /= 256;
         }
+        return s;
     }
     while 0 < w {
         s = put(out, s, (w % 256) as u8);
-        w = w / 256;
+        w /= 256;
     }
     s
 }
@@ -98,39 +90,38 @@ pub(crate) fn copy(tree: &[u8], at: usize, n: usize, out: &mut [u8], spot: usize
 {
     let end = end_of(tree, at, n);
     let mut s = spot;
-    let mut i = at;
-    if spot < out.len() {
-        if end - at < out.len() - spot {
-            while 3 < end - i {
-                out[s] = tree[i];
-                out[s + 1] = tree[i + 1];
-                out[s + 2] = tree[i + 2];
-                out[s + 3] = tree[i + 3];
-                s += 4;
-                i += 4;
-            }
-            if end <= i {
-                return s;
-            }
+    if spot < out.len() && end - at < out.len() - spot {
+        let mut i = at;
+        // By hand: from a method or a loop the compiler makes vectors, and that took longer.
+        while 3 < end - i {
             out[s] = tree[i];
-            if end <= i + 1 {
-                return s + 1;
-            }
             out[s + 1] = tree[i + 1];
-            if end <= i + 2 {
-                return s + 2;
-            }
             out[s + 2] = tree[i + 2];
-            return s + 3;
+            out[s + 3] = tree[i + 3];
+            s += 4;
+            i += 4;
         }
+        if end <= i {
+            return s;
+        }
+        out[s] = tree[i];
+        if end <= i + 1 {
+            return s + 1;
+        }
+        out[s + 1] = tree[i + 1];
+        if end <= i + 2 {
+            return s + 2;
+        }
+        out[s + 2] = tree[i + 2];
+        return s + 3;
     }
-    while i < end {
+    for i in at..end {
         s = put(out, s, tree[i]);
-        i += 1;
     }
     s
 }
 
+#[tactic(auto, unfolding(crate::specs::Names::hex_digit))]
 fn hex_digit(d: usize) -> u8
     ensures { d < 16 → result ≡ hex_digit d }
 {
@@ -140,24 +131,19 @@ fn hex_digit(d: usize) -> u8
     (87 + d % 16) as u8
 }
 
+#[tactic(auto, unfolding(crate::specs::Names::needs_escape))]
 fn needs_escape(b: u8) -> bool
     ensures { result ≡ needs_escape b }
 {
-    if b < 32 {
-        return true;
-    }
-    if b == 34 {
-        return true;
-    }
-    b == 92
+    b < 32 || b == 34 || b == 92
 }
 
 fn put_escaped(out: &mut [u8], spot: usize, b: u8) -> usize
     ensures { buffer_in out.new result ≡ write (buffer_in out.old spot) (escaped_byte b) }
 {
     if needs_escape(b) {
-        let high = hex_digit(wide(b) / 16);
-        let low = hex_digit(wide(b) % 16);
+        let high = hex_digit(usize::from(b) / 16);
+        let low = hex_digit(usize::from(b) % 16);
         let p = put(out, spot, 92);
         let q = put(out, p, 120);
         let r = put(out, q, high);
@@ -171,10 +157,8 @@ fn copy_escaped(tree: &[u8], at: usize, n: usize, out: &mut [u8], spot: usize) -
 {
     let end = end_of(tree, at, n);
     let mut s = spot;
-    let mut i = at;
-    while i < end {
+    for i in at..end {
         s = put_escaped(out, s, tree[i]);
-        i += 1;
     }
     s
 }

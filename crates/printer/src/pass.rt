@@ -8,7 +8,7 @@ ghost use Rattle.printer.specs.Text.{text_of};
 ghost use Rattle.printer.specs.Turns.{start, empty};
 
 use crate::print::State;
-use crate::{entries, frame, step};
+use crate::{frame, numbers, step};
 
 // Around the Program, and nothing is written.
 fn begin() -> State
@@ -37,8 +37,7 @@ pub(crate) fn print(
     ensures { slots.now ≡ slot_numbers → sorts.now ≡ sort_numbers → words.now ≡ word_numbers → (n : Node) → Logged tree.now log.now count n → 16384 ≤ length stack.old → 16384 ≤ length starts.old → buffer_in text.new result ≡ write (buffer_in text.old empty) (text_of n) }
 {
     let mut s = begin();
-    let mut i = 0;
-    while i < count {
+    for i in 0..count {
         s = step::turn(
             slots,
             sorts,
@@ -48,9 +47,8 @@ pub(crate) fn print(
             starts,
             text,
             s,
-            entries::entry_at(log, i),
+            numbers::entry_at(log, i),
         );
-        i += 1;
     }
     s.spot
 }

@@ -23,42 +23,31 @@ pub(crate) fn is_statement(sort: usize) -> bool
 }
 
 // 1 in method form, else 0; m is the manner.
+#[tactic(auto, unfolding(crate::specs::Places::in_method_form))]
 pub(crate) fn method(p: usize, m: usize, kind: usize, map: usize) -> usize
     ensures { m ≡ manner_in (frame_in p) → result ≡ in_method_form (frame_in p) kind map }
 {
-    if m == 12 {
-        if kind == 14 {
-            if map / 4 % 2 == 0 {
-                if 3 < frame::note_in(p) {
-                    return 1;
-                }
-            }
-        }
+    if m == 12 && kind == 14 && map / 4 % 2 == 0 && 3 < frame::note_in(p) {
+        1
+    } else {
+        0
     }
-    0
 }
 
 // In parentheses: an expression that is not a name or literal.
+#[tactic(auto, unfolding(crate::specs::Places::wrapping))]
 pub(crate) fn wraps(method: usize, sort: usize) -> bool
     ensures { (p : Frame) (kind map note : ℕ) → Sorted kind note sort → method ≡ in_method_form p kind map → cond result 1 0 ≡ wrapping p kind map note }
 {
-    if method == 0 {
-        return sort / 4194304 % 2 == 1;
-    }
-    false
+    method == 0 && sort / 4194304 % 2 == 1
 }
 
 // A comma and a blank part an item from the one before.
+#[tactic(auto, unfolding(crate::specs::Places::separator))]
 pub(crate) fn is_parted(p: usize, m: usize) -> bool
     ensures { m ≡ manner_in (frame_in p) → separator (frame_in p) ≡ cond result 70 0 }
 {
-    if 0 < frame::seen_in(p) {
-        if m == 7 {
-            return true;
-        }
-        return m == 11;
-    }
-    false
+    0 < frame::seen_in(p) && (m == 7 || m == 11)
 }
 
 // What parts an item from the one before.
@@ -78,6 +67,7 @@ pub(crate) fn leading(p: usize, m: usize, own: usize, method: usize) -> usize
     layout::choose(own, p, method)
 }
 
+#[tactic(auto, unfolding(crate::specs::Places::joining))]
 pub(crate) fn joining(m: usize, kind: usize, statement: bool) -> usize
     ensures { (p : ℕ) (note : ℕ) → m ≡ manner_in (frame_in p) → statement ≡ is_statement kind note → result ≡ joining (frame_in p) kind note }
 {
@@ -90,6 +80,7 @@ pub(crate) fn joining(m: usize, kind: usize, statement: bool) -> usize
 }
 
 // What stands behind a child, but for the parenthesis.
+#[tactic(auto, unfolding(crate::specs::Places::trailing))]
 fn trail(p: usize, m: usize, statement: bool) -> usize
     ensures { (m ≡ manner_in (frame_in p) → result ≡ trailing (frame_in p) statement) × (result ≤ 62) }
 {
@@ -105,6 +96,7 @@ fn trail(p: usize, m: usize, statement: bool) -> usize
     }
 }
 
+#[tactic(auto, unfolding(crate::specs::Places::following))]
 pub(crate) fn following(p: usize, m: usize, statement: bool, wrapped: bool) -> usize
     ensures { ((kind map note : ℕ) → m ≡ manner_in (frame_in p) → statement ≡ is_statement kind note → cond wrapped 1 0 ≡ wrapping (frame_in p) kind map note → result ≡ following (frame_in p) kind map note) × (result ≤ 63) }
 {
@@ -133,44 +125,26 @@ pub(crate) fn plain_following(m: usize, wrapped: bool) -> usize
 pub(crate) fn is_plain(m: usize, kind: usize) -> bool
     ensures { result ≡ true → Plain m kind }
 {
-    if kind == 14 {
-        return false;
-    }
-    if m < 5 {
-        return true;
-    }
-    10 < m
+    kind != 14 && (m < 5 || 10 < m)
 }
 
+#[tactic(auto, unfolding(crate::specs::Places::noted_at))]
 pub(crate) fn noted_at(m: usize, kind: usize) -> usize
     ensures { ((p : ℕ) → m ≡ manner_in (frame_in p) → result ≡ noted_at (frame_in p) kind) × (result ≤ 2) }
 {
-    if m == 9 {
-        if kind == 4 {
-            return 1;
-        }
-        return 0;
+    match m {
+        9 => { if kind == 4 { 1 } else { 0 } }
+        10 => 2,
+        _ => 0,
     }
-    if m == 10 {
-        return 2;
-    }
-    0
 }
 
 // A computed key.
+#[tactic(auto, unfolding(crate::specs::Places::computed))]
 pub(crate) fn is_computed(kind: usize, note: usize) -> bool
     ensures { computed kind note ≡ cond result 67 0 }
 {
-    if note % 2 == 1 {
-        if kind == 25 {
-            return true;
-        }
-        if kind == 35 {
-            return true;
-        }
-        return kind == 41;
-    }
-    false
+    note % 2 == 1 && (kind == 25 || kind == 35 || kind == 41)
 }
 
 pub(crate) fn tail_word(sorts: &[u32], f: usize) -> usize
@@ -186,6 +160,7 @@ pub(crate) fn close_word(sorts: &[u32], f: usize) -> usize
 }
 
 // The parent after a child.
+#[tactic(auto, unfolding(crate::specs::Places::around, crate::specs::Places::past))]
 pub(crate) fn around(p: usize, method: usize) -> usize
     ensures { (kind map : ℕ) → method ≡ in_method_form (frame_in p) kind map → result ≡ packed_frame (around (frame_in p) kind map) (next_in p) }
 {
@@ -198,29 +173,23 @@ pub(crate) fn around(p: usize, method: usize) -> usize
     frame::past_in(p)
 }
 
+#[tactic(auto, unfolding(crate::specs::Places::is_quasis))]
 pub(crate) fn is_quasis(m: usize) -> bool
     ensures { (l : ℕ) → m ≡ manner_in (frame_in l) → result ≡ is_quasis (frame_in l) }
 {
     m == 10
 }
 
+#[tactic(auto, unfolding(crate::specs::Places::is_filled))]
 pub(crate) fn is_filled(l: usize, m: usize) -> bool
     ensures { m ≡ manner_in (frame_in l) → result ≡ is_filled (frame_in l) }
 {
-    if m == 6 {
-        return frame::list_in(l) == 1;
-    }
-    false
+    m == 6 && frame::list_in(l) == 1
 }
 
+#[tactic(auto, unfolding(crate::specs::Places::leaves))]
 pub(crate) fn leaves(l: usize, m: usize) -> bool
     ensures { m ≡ manner_in (frame_in l) → result ≡ leaves (frame_in l) }
 {
-    if m == 6 {
-        return true;
-    }
-    if m == 10 {
-        return frame::map_in(l) / 2 % 2 == 0;
-    }
-    false
+    m == 6 || m == 10 && frame::map_in(l) / 2 % 2 == 0
 }

@@ -9,7 +9,7 @@ ghost use Rattle.printer.specs.Stacks.{frame_in, next_in, packed_frame, text_at_
 ghost use Rattle.printer.specs.Entries.{is_leaf_of};
 ghost use Rattle.printer.specs.Turns.{start_of};
 
-use crate::{frame, layout, out, places};
+use crate::{frame, layout, numbers, out, places};
 use tree::bytes;
 
 // The innermost frame with its next quasi, packed; how many frames are open around it; how many quasis are held; how much is
@@ -22,46 +22,6 @@ pub(crate) struct State {
     pub spot: usize,
 }
 
-pub(crate) fn keep(numbers: &mut [usize], i: usize, v: usize)
-    ensures { numbers.new ≡ set numbers.old i v }
-{
-    if i < numbers.len() {
-        numbers[i] = v;
-    }
-}
-
-pub(crate) fn number_at(numbers: &[usize], i: usize) -> usize
-    ensures { result ≡ get_or numbers.now i 0 }
-{
-    if i < numbers.len() {
-        return numbers[i];
-    }
-    0
-}
-
-fn wide(n: u16) -> usize
-    ensures { result ≡ n }
-{
-    n as usize
-}
-
-pub(crate) fn short_at(numbers: &[u16], i: usize) -> usize
-    ensures { result ≡ get_or numbers.now i 0 }
-{
-    if i < numbers.len() {
-        return wide(numbers[i]);
-    }
-    0
-}
-
-pub(crate) fn keep_short(numbers: &mut [u16], i: usize, v: usize)
-    ensures { v < 65536 → numbers.new ≡ set numbers.old i v }
-{
-    if i < numbers.len() {
-        numbers[i] = (v % 65536) as u16;
-    }
-}
-
 // Where the quasi with this place stands, counted from 1; 0 if there is none.
 fn start_of(starts: &[u16], count: usize, next: usize) -> usize
     ensures { result ≡ start_of starts.now count next }
@@ -70,7 +30,7 @@ fn start_of(starts: &[u16], count: usize, next: usize) -> usize
         return 0;
     }
     if next <= count {
-        return short_at(starts, next - 1);
+        return numbers::short_at(starts, next - 1);
     }
     0
 }
@@ -125,12 +85,11 @@ fn step_over(starts: &[u16], count: usize, next: usize) -> usize
     if start_of(starts, count, next) == 0 {
         return next;
     }
-    if count < 65536 {
-        if next <= count {
-            return next + 1;
-        }
+    if count < 65536 && next <= count {
+        next + 1
+    } else {
+        next
     }
-    next
 }
 
 // The parent after a child, with the quasi that is next then.
@@ -159,14 +118,12 @@ fn left_over(
         return spot;
     }
     let mut s = spot;
-    let mut i = next - 1;
-    while i < count {
-        let start = short_at(starts, i);
+    for i in next - 1..count {
+        let start = numbers::short_at(starts, i);
         if start == 0 {
             return s;
         }
         s = text_at(tree, start - 1, text, s);
-        i += 1;
     }
     s
 }
@@ -203,11 +160,9 @@ fn joint(
 ) -> usize
     ensures { words.now ≡ word_numbers → (note : ℕ) → m ≡ manner_in (frame_in p) → statement ≡ is_statement kind note → buffer_in text.new result ≡ write (buffer_in text.old spot) (cond (is_filled (frame_in p)) (cell_text (cell_at (held_in tree.now starts.now count) (next_in p))) [] ++ word (joining (frame_in p) kind note)) }
 {
-    if 5 < m {
-        if m < 9 {
-            let a = quasi_in(tree, starts, text, spot, p, m, count);
-            return out::say_any(words, text, a, places::joining(m, kind, statement));
-        }
+    if 5 < m && m < 9 {
+        let a = quasi_in(tree, starts, text, spot, p, m, count);
+        return out::say_any(words, text, a, places::joining(m, kind, statement));
     }
     spot
 }

@@ -11,19 +11,14 @@ ghost use Rattle.printer.specs.Logged.{entries_in, leaf_in, deep_by};
 ghost use Rattle.printer.specs.Turns.{state_in, moved, Ready, count_by, Kept, Turned};
 
 use crate::print::State;
-use crate::{frame, layout, out, places, print, texts};
+use crate::{frame, layout, numbers, out, places, print, texts};
 use tree::bytes;
 
 // Another frame, and more is written.
 fn moved(s: State, top: usize, spot: usize) -> State
     ensures { result ≡ moved s top spot }
 {
-    State {
-        top: top,
-        level: s.level,
-        count: s.count,
-        spot: spot,
-    }
+    State { top, spot, ..s }
 }
 
 // One more is held: a quasi by its position from 1 on, or 0, a stop.
@@ -77,7 +72,7 @@ fn plain(
     let count = s.count;
     let old = s.spot;
     if level < stack.len() {
-        print::keep(stack, level, places::around(p, 0));
+        numbers::keep(stack, level, places::around(p, 0));
         let wrapped = places::wraps(0, sort);
         let how = places::plain_following(m, wrapped);
         let f = frame::begun(kind, map, note, 0, how);
@@ -85,8 +80,8 @@ fn plain(
         return State {
             top: f,
             level: level + 1,
-            count: count,
-            spot: spot,
+            count,
+            spot,
         };
     }
     s
@@ -141,12 +136,12 @@ fn begin(
             wrapped,
             sort % 128,
         );
-        print::keep(stack, level, print::around(starts, p, m, method, count));
+        numbers::keep(stack, level, print::around(starts, p, m, method, count));
         return State {
             top: f,
             level: level + 1,
-            count: count,
-            spot: spot,
+            count,
+            spot,
         };
     }
     s
@@ -173,23 +168,21 @@ fn leaf(
     let m = slot / 128;
     let own = slot % 128;
     let a = print::leaf_opening(words, tree, starts, text, old, f, count, m, own);
-    if code == 13 {
-        if places::is_quasis(m) {
-            return State {
-                top: print::around(starts, f, m, 0, count),
-                level: level,
-                count: hold(starts, count, p % 65535 + 1),
-                spot: a,
-            };
-        }
+    if code == 13 && places::is_quasis(m) {
+        return State {
+            top: print::around(starts, f, m, 0, count),
+            level,
+            count: hold(starts, count, p % 65535 + 1),
+            spot: a,
+        };
     }
     let b = texts::leaf(tree, p, text, a, code);
     let spot = out::say_any(words, text, b, places::following(f, m, false, false));
     State {
         top: print::around(starts, f, m, 0, count),
-        level: level,
-        count: count,
-        spot: spot,
+        level,
+        count,
+        spot,
     }
 }
 
@@ -202,13 +195,13 @@ fn end(sorts: &[u32], words: &[usize], stack: &[usize], text: &mut [u8], s: Stat
     if level == 0 {
         return s;
     }
-    let top = print::number_at(stack, level - 1);
+    let top = numbers::number_at(stack, level - 1);
     let spot = print::closing(sorts, words, text, old, s.top);
     State {
-        top: top,
+        top,
         level: level - 1,
-        count: count,
-        spot: spot,
+        count,
+        spot,
     }
 }
 
@@ -216,12 +209,12 @@ fn end(sorts: &[u32], words: &[usize], stack: &[usize], text: &mut [u8], s: Stat
 fn opened(l: usize, m: usize, count: usize) -> usize
     ensures { m ≡ manner_in (frame_in l) → count < 65536 → result ≡ packed_frame (frame_in l) (cond (is_quasis (frame_in l)) (count + 1) (next_in l)) }
 {
-    if places::is_quasis(m) {
-        if count < 65536 {
-            return frame::with_next(l, count + 1);
-        }
-    }
-    frame::with_next(l, frame::next_in(l))
+    let next = if places::is_quasis(m) && count < 65536 {
+        count + 1
+    } else {
+        frame::next_in(l)
+    };
+    frame::with_next(l, next)
 }
 
 fn open_list(
@@ -240,13 +233,13 @@ fn open_list(
     let old = s.spot;
     if level < stack.len() {
         let slot = places::slot_in(slots, f);
-        print::keep(stack, level, frame::unlisted_in(f, n));
+        numbers::keep(stack, level, frame::unlisted_in(f, n));
         let spot = out::say_any(words, text, old, layout::choose(slot % 128, f, 0));
         return State {
             top: opened(frame::listed_in(f), slot / 128, count),
             level: level + 1,
-            count: count,
-            spot: spot,
+            count,
+            spot,
         };
     }
     s
@@ -256,10 +249,8 @@ fn open_list(
 fn closed(v: usize, l: usize, m: usize) -> usize
     ensures { m ≡ manner_in (frame_in l) → result ≡ packed_frame (frame_in v) (cond (is_quasis (frame_in l)) (next_in l) (next_in v)) }
 {
-    if places::is_quasis(m) {
-        return frame::with_next(v, frame::next_in(l));
-    }
-    frame::with_next(v, frame::next_in(v))
+    let from = if places::is_quasis(m) { l } else { v };
+    frame::with_next(v, frame::next_in(from))
 }
 
 fn close_list(
@@ -283,13 +274,13 @@ fn close_list(
     let m = places::slot_in(slots, l) / 128;
     let a = out::say_any(words, text, old, places::close_word(sorts, l));
     let spot = print::left_in(tree, starts, text, a, l, m, s.count);
-    let top = closed(print::number_at(stack, level - 1), l, m);
+    let top = closed(numbers::number_at(stack, level - 1), l, m);
     let count = hold_stop(starts, m, s.count);
     State {
-        top: top,
+        top,
         level: level - 1,
-        count: count,
-        spot: spot,
+        count,
+        spot,
     }
 }
 
@@ -323,10 +314,10 @@ fn text_met(
     let top = frame::noting_in(f, texts::spelled(tree, at, n, f));
     let count = hold_text(starts, f, s.count, p);
     State {
-        top: top,
-        level: level,
-        count: count,
-        spot: spot,
+        top,
+        level,
+        count,
+        spot,
     }
 }
 

@@ -14,10 +14,7 @@ use tree::bytes;
 fn is_empty(tree: &[u8], at: usize, n: usize) -> bool
     ensures { result ≡ is_empty (take n (drop at tree.now)) }
 {
-    if n == 0 {
-        return true;
-    }
-    tree.len() <= at
+    n == 0 || tree.len() <= at
 }
 
 // The text whose length stands at a position, in quotes.
@@ -141,24 +138,19 @@ pub(crate) fn spelled(tree: &[u8], at: usize, n: usize, f: usize) -> usize
     if is_empty(tree, at, n) {
         return frame::seen_in(f);
     }
-    if frame::kind_in(f) == 22 {
-        if frame::seen_in(f) == 0 {
-            return 1;
-        }
+    if frame::kind_in(f) == 22 && frame::seen_in(f) == 0 {
+        1
+    } else {
+        frame::seen_in(f)
     }
-    frame::seen_in(f)
 }
 
 // A quasi's spelling.
+#[tactic(auto, unfolding(crate::specs::Places::is_quasi))]
 pub(crate) fn is_quasi(f: usize) -> bool
     ensures { result ≡ is_quasi (frame_in f) }
 {
-    if frame::kind_in(f) == 22 {
-        if frame::seen_in(f) == 2 {
-            return frame::field_in(f) == 1;
-        }
-    }
-    false
+    frame::kind_in(f) == 22 && frame::seen_in(f) == 2 && frame::field_in(f) == 1
 }
 
 // The text of a leaf by its code: that of a StaticKey as its name stands there; a Literal's spelling, or its form in quotes; else
@@ -171,10 +163,8 @@ pub(crate) fn leaf(tree: &[u8], p: usize, text: &mut [u8], spot: usize, code: us
     if code == 12 {
         return key(tree, at, n, text, spot);
     }
-    if code == 13 {
-        if is_empty(tree, at, n) {
-            return quoted(tree, at + n, text, spot);
-        }
+    if code == 13 && is_empty(tree, at, n) {
+        return quoted(tree, at + n, text, spot);
     }
     out::copy(tree, at, n, text, spot)
 }

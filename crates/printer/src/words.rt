@@ -2,6 +2,8 @@
 ghost use Rattle.std.specs.Prelude.{◌≡◌};
 ghost use Rattle.printer.specs.Rows.{word_numbers, low_of, middle_of, high_of};
 
+use crate::numbers;
+
 // The first eight bytes of each.
 const WORDS: [usize; 128] = [
     0,
@@ -144,10 +146,7 @@ pub(crate) fn words() -> [usize; 128]
 pub(crate) fn low(words: &[usize], id: usize) -> usize
     ensures { words.now ≡ word_numbers → result ≡ low_of id }
 {
-    if id < words.len() {
-        return words[id];
-    }
-    0
+    numbers::number_at(words, id)
 }
 
 // The next eight.

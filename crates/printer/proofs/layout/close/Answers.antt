@@ -2,4 +2,4 @@ use Rattle.printer.proofs.LayoutNumbers as law
 use Rattle.printer.proofs.layout.close.Goals as goal
 
 pub returns : goal.returns
-returns c e h = law.close_at _ _ _ c.sort_at.ensures e h
+returns c e h = law.close_at _ _ _ c.entry_at.ensures e h

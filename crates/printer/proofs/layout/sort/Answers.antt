@@ -1,11 +1,19 @@
 use Rattle.printer.proofs.LayoutNumbers as law
+use mathlib.Core.Path.{◌≡◌, ap, ◌∙◌}
+use Prim.Native.Nat.{ℕ, ◌+◌}
+use native.Mathlib.Decide.{dec_lt}
+use native.Mathlib.Omega.{arith}
+use lib.ListN.{get_or}
 use Rattle.printer.proofs.layout.sort.Goals as goal
-
-pub returns-then-note-lt3 : goal.returns-then-note-lt3
-returns-then-note-lt3 c e h = law.sort_function _ _ _ _ c.sort_at.ensures c.if-kind-eq14.true c.if-note-lt3.true e
-
-pub returns-then-kind-eq14 : goal.returns-then-kind-eq14
-returns-then-kind-eq14 c e h = law.sort_other _ _ _ _ c.sort_at-then-kind-eq14.ensures c.if-kind-eq14.true c.if-note-lt3.false e
+use Rattle.printer.proofs.layout.sort.Goals.{then-kind-eq14, else-kind-eq14}
 
 pub returns : goal.returns
-returns c e h = law.sort_kind _ _ _ _ c.sort_at-2.ensures c.if-kind-eq14.false e h
+returns c e h =
+    let found = λ (k : ℕ) (x : c.if-kind-eq14.entry ≡ k). c.entry_at.ensures ∙ ap (λ (i : ℕ). get_or c.args.sorts.now i 0) x in
+    elim c.if-kind-eq14.branch [
+      | then-kind-eq14 w ↦ elim (dec_lt c.args.note 3) [
+        | yes i ↦ law.sort_function _ _ _ _ (found (64 + c.args.note) (omega (arith, w.entry-is, w.min.ensures, i))) w.if-kind-eq14.true i e
+        | no i ↦ law.sort_other _ _ _ _ (found 67 (omega (arith, w.entry-is, w.min.ensures, i))) w.if-kind-eq14.true (omega (arith, i)) e
+      ]
+      | else-kind-eq14 w ↦ law.sort_kind _ _ _ _ (found c.args.kind w.entry-is) w.if-kind-eq14.false e h
+    ]

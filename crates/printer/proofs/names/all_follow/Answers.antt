@@ -1,31 +1,23 @@
 use Rattle.printer.proofs.Named as law
-use mathlib.Core.Path.{refl, sym, ap, ◌∙◌}
-use native.Mathlib.Omega.{arith}
+use mathlib.Core.Path.{◌≡◌, sym, ap, ◌∙◌}
+use mathlib.Core.Bool.{Bool}
+use mathlib.Core.List.{List}
 use Prim.Native.Nat.{ℕ, ◌/◌}
-use lib.ListN.{get_or}
+use native.Mathlib.Omega.{arith}
+use borrow.Author.Rules.{rules}
+use borrow.Author.Tests.{tests}
+use lib.Dec.{eqb}
+use Rattle.std.specs.List.{list_all}
+use Rattle.std.proofs.lemmas.Iterator.{YieldsList-from_slice}
+use Rattle.std.proofs.lemmas.Iterator.Search.{all_from_yields_List}
 use Rattle.printer.specs.Names.{entry_in_of}
 use Rattle.printer.proofs.names.all_follow.Goals as goal
 
-pub returns-then-tree-end : goal.returns-then-tree-end
-returns-then-tree-end c = λ e h. absurd (omega (arith, h, c.if-tree-end.true))
+pub returns-in-Some : goal.returns-in-Some
+returns-in-Some c = λ e h.
+    let p : ℕ → Bool = λ x. eqb (entry_in_of c.args.table.now x / 2) 1 in
+    let r : c.all.result ≡ list_all p c.in-Some.bytes.now = all_from_yields_List p _ _ _ c.all.ensures.ran (YieldsList-from_slice c.in-Some.bytes.now cc) (λ x b q k. search (rules, tests)) in
+    r ∙ ap (list_all p) c.in-Some.ensures.lookup.0.2 ∙ law.part_follows c.args.table.now e c.args.tree.now (λ k. omega (arith, c.type_inv.tree k)) _ _
 
-pub loop-i-init : goal.loop-i-init
-loop-i-init c = λ e. refl
-
-pub bounds-tree-i : goal.bounds-tree-i
-bounds-tree-i c = omega (arith, c.loop-i-test.true, c.if-tree-end.false)
-
-pub returns-then-entry-eq0 : goal.returns-then-entry-eq0
-returns-then-entry-eq0 c = λ e h. sym (law.follow_not _ _ _ c.loop-i-test.true h (law.later_not _ (get_or c.args.tree.now c.loop-i.i 0) e (omega (arith, c.type_inv.tree c.loop-i.i)) (ap (λ (x : ℕ). entry_in_of c.args.table.now x / 2) (sym c.wide.ensures) ∙ ap (λ (x : ℕ). x / 2) (sym c.entry.ensures) ∙ c.if-entry-eq0.true))) ∙ c.loop-i.invariant e
-
-pub overflow_add-i : goal.overflow_add-i
-overflow_add-i c = omega (arith, c.loop-i-test.true, c.if-tree-end.false)
-
-pub loop-i-smaller : goal.loop-i-smaller
-loop-i-smaller c = omega (arith, c.loop-i-test.true)
-
-pub loop-i-preserved : goal.loop-i-preserved
-loop-i-preserved c = λ e. sym (law.follow_on _ _ _ c.loop-i-test.true c.if-tree-end.false (law.later_so _ (get_or c.args.tree.now c.loop-i.i 0) e (omega (arith, c.type_inv.tree c.loop-i.i)) (λ z. c.if-entry-eq0.false (sym (ap (λ (x : ℕ). entry_in_of c.args.table.now x / 2) (sym c.wide.ensures) ∙ ap (λ (x : ℕ). x / 2) (sym c.entry.ensures)) ∙ z)))) ∙ c.loop-i.invariant e
-
-pub returns : goal.returns
-returns c = λ e h. sym (law.follow_end _ _ _ c.loop-i-test.false) ∙ c.loop-i.invariant e
+pub returns-in-None : goal.returns-in-None
+returns-in-None c = λ e h. let z = c.in-None.ensures in sym (law.follow_end c.args.tree.now c.args.from c.args.end (omega (arith, h, z.lookup.0)))

@@ -14,9 +14,6 @@ loop-i-init c = (ap (λ (l : List ℕ). write (buffer_in c.args.out.now c.args.s
 pub bounds-tree-i : goal.bounds-tree-i
 bounds-tree-i c = omega (arith, c.loop-i-test.true, c.end_of-end.ensures.inside (omega (arith, c.loop-i-test.true, c.loop-i.invariant.2)))
 
-pub overflow_add-i : goal.overflow_add-i
-overflow_add-i c = omega (arith, c.loop-i-test.true, c.end_of-end.ensures.inside (omega (arith, c.loop-i-test.true, c.loop-i.invariant.2)))
-
 pub loop-i-smaller : goal.loop-i-smaller
 loop-i-smaller c = omega (arith, c.loop-i-test.true)
 

@@ -6,9 +6,6 @@ use Rattle.printer.proofs.pass.print.Goals as goal
 pub loop-i-init : goal.loop-i-init
 loop-i-init c = (omega arith, refl, refl, refl, λ hs hr hw n w a b. law.going_start c.args.tree.now c.args.log.now c.args.stack.now c.args.starts.now c.args.text.now a b _ c.begin-s.ensures)
 
-pub overflow_add-i : goal.overflow_add-i
-overflow_add-i c = omega (arith, c.loop-i-test.true, c.ranges)
-
 pub loop-i-smaller : goal.loop-i-smaller
 loop-i-smaller c = omega (arith, c.loop-i-test.true)
 

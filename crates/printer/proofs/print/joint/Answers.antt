@@ -9,8 +9,6 @@ use Rattle.printer.proofs.print.joint.Goals as goal
 pub returns-then-m-lt9 : goal.returns-then-m-lt9
 returns-then-m-lt9 c = λ w n h s. c.say_any.ensures w ∙ ap (λ (b : Buffer). write b (word c.joining.result)) (c.quasi_in-a.ensures h) ∙ rw (c.joining.ensures c.args.p n h s) (sym (write_append _ _ _))
 
-pub returns-else-m-lt9 : goal.returns-else-m-lt9
-returns-else-m-lt9 c = λ w n h s. law.no_joint _ (frame_in c.args.p) _ _ n (λ e. absurd (omega (arith, h, e, c.if-m-lt9.false))) (λ e. absurd (omega (arith, h, e, c.if-m-lt9.false))) (λ e. absurd (omega (arith, h, e, c.if-m-lt9.false)))
-
-pub returns-else-m-gt5 : goal.returns-else-m-gt5
-returns-else-m-gt5 c = λ w n h s. law.no_joint _ (frame_in c.args.p) _ _ n (λ e. absurd (omega (arith, h, e, c.if-m-gt5.false))) (λ e. absurd (omega (arith, h, e, c.if-m-gt5.false))) (λ e. absurd (omega (arith, h, e, c.if-m-gt5.false)))
+pub returns : goal.returns
+returns c = λ w n h s.
+    law.no_joint _ (frame_in c.args.p) _ _ n (λ e. absurd (omega (arith, h, e, c.else-m-gt5.either))) (λ e. absurd (omega (arith, h, e, c.else-m-gt5.either))) (λ e. absurd (omega (arith, h, e, c.else-m-gt5.either)))

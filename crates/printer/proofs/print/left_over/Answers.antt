@@ -12,9 +12,6 @@ pub returns-then-next-eq0 : goal.returns-then-next-eq0
 unfolding left_over_of write
 returns-then-next-eq0 c = rw c.if-next-eq0.true refl
 
-pub overflow_sub-i : goal.overflow_sub-i
-overflow_sub-i c = omega (arith, c.if-next-eq0.false)
-
 pub loop-i-init : goal.loop-i-init
 loop-i-init c = (refl, refl)
 
@@ -23,9 +20,6 @@ returns-then-start-eq0 c = law.left_stop c.args.tree.now c.args.starts.now c.arg
 
 pub overflow_sub-start : goal.overflow_sub-start
 overflow_sub-start c = omega (arith, c.if-start-eq0.false)
-
-pub overflow_add-i : goal.overflow_add-i
-overflow_add-i c = omega (arith, c.loop-i-test.true)
 
 pub loop-i-smaller : goal.loop-i-smaller
 loop-i-smaller c = omega (arith, c.loop-i-test.true)

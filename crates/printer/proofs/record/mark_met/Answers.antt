@@ -7,10 +7,10 @@ use Rattle.rewritten.proofs.Tasks.{mark_ends}
 use Rattle.printer.proofs.record.mark_met.Goals as goal
 
 pub returns-then-what-eq0 : goal.returns-then-what-eq0
-returns-then-what-eq0 c = (record { what = c.mark-what.result; is = c.mark-what.ensures.0; coded = c.mark-what.ensures.1; none = λ z. rw c.refused.ensures refl; some = λ n. absurd (n c.if-what-eq0.true) }, λ n. absurd (n (rw c.refused.ensures refl)))
+returns-then-what-eq0 c = (record { what = c.mark-what.result; is = c.mark-what.ensures.0; coded = c.mark-what.ensures.1; none = λ z. refl; some = λ n. absurd (n c.if-what-eq0.true) }, tt)
 
-pub overflow_add-at : goal.overflow_add-at
-overflow_add-at c = omega (arith, mark_ends _ _ _ _ _ (c.mark-what.ensures.0 0) (c.mark-what.ensures.1 c.if-what-eq0.false))
+pub overflow_add-result : goal.overflow_add-result
+overflow_add-result c = omega (arith, mark_ends _ _ _ _ _ (c.mark-what.ensures.0 0) (c.mark-what.ensures.1 c.if-what-eq0.false))
 
 pub returns-then-is_new_ahead : goal.returns-then-is_new_ahead
 returns-then-is_new_ahead c = (
@@ -19,9 +19,9 @@ returns-then-is_new_ahead c = (
     is = c.mark-what.ensures.0;
     coded = c.mark-what.ensures.1;
     none = λ z. absurd (c.if-what-eq0.false z);
-    some = λ n. record { new = true; is = sym (found_true c.is_new_ahead.ensures c.if-is_new_ahead.true); twice = λ e. never (sym e); cursor = λ e. c.cursor_at.ensures; noted = λ e. c.note_ahead.ensures; logged = λ e. c.keep.ensures (omega arith) };
+    some = λ n. record { new = true; is = sym (found_true c.is_new_ahead.ensures c.if-is_new_ahead.true); twice = λ e. never (sym e); cursor = λ e. refl; noted = λ e. c.note_ahead.ensures; logged = λ e. c.keep_entry.ensures (omega arith) };
   },
-  λ n. let h = mark_ends _ _ _ _ _ (c.mark-what.ensures.0 0) (c.mark-what.ensures.1 c.if-what-eq0.false) in rw c.cursor_at.ensures (omega arith, omega arith),
+  let h = mark_ends _ _ _ _ _ (c.mark-what.ensures.0 0) (c.mark-what.ensures.1 c.if-what-eq0.false) in (omega arith, omega arith),
 )
 
 pub returns : goal.returns
@@ -31,7 +31,7 @@ returns c = (
     is = c.mark-what.ensures.0;
     coded = c.mark-what.ensures.1;
     none = λ z. absurd (c.if-what-eq0.false z);
-    some = λ n. record { new = false; is = sym (found_true c.is_new_ahead.ensures c.if-is_new_ahead.false); twice = λ e. rw c.refused-2.ensures refl; cursor = λ e. never e; noted = λ e. never e; logged = λ e. never e };
+    some = λ n. record { new = false; is = sym (found_true c.is_new_ahead.ensures c.if-is_new_ahead.false); twice = λ e. refl; cursor = λ e. never e; noted = λ e. never e; logged = λ e. never e };
   },
-  λ n. absurd (n (rw c.refused-2.ensures refl)),
+  tt,
 )

@@ -6,13 +6,13 @@ use Rattle.rewritten.proofs.Tasks.{text_ends}
 use Rattle.printer.proofs.record.name_met.Goals as goal
 
 pub returns-then-what-eq0 : goal.returns-then-what-eq0
-returns-then-what-eq0 c = (λ h. record { what = c.text-what.result; is = c.text-what.ensures.0; coded = c.text-what.ensures.1; none = λ z. rw c.refused.ensures refl; some = λ n. absurd (n c.if-what-eq0.true) }, λ n. absurd (n (rw c.refused.ensures refl)))
+returns-then-what-eq0 c = (λ h. record { what = c.text-what.result; is = c.text-what.ensures.0; coded = c.text-what.ensures.1; none = λ z. refl; some = λ n. absurd (n c.if-what-eq0.true) }, tt)
 
-pub overflow_add-at : goal.overflow_add-at
-overflow_add-at c = omega (arith, text_ends _ _ _ _ _ (c.text-what.ensures.0 0) (c.text-what.ensures.1 c.if-what-eq0.false))
+pub overflow_add-result : goal.overflow_add-result
+overflow_add-result c = omega (arith, text_ends _ _ _ _ _ (c.text-what.ensures.0 0) (c.text-what.ensures.1 c.if-what-eq0.false))
 
-pub overflow_add-at-2 : goal.overflow_add-at-2
-overflow_add-at-2 c = omega (arith, text_ends _ _ _ _ _ (c.text-what.ensures.0 0) (c.text-what.ensures.1 c.if-what-eq0.false))
+pub overflow_add-result-2 : goal.overflow_add-result-2
+overflow_add-result-2 c = omega (arith, text_ends _ _ _ _ _ (c.text-what.ensures.0 0) (c.text-what.ensures.1 c.if-what-eq0.false))
 
 pub returns : goal.returns
 returns c = (
@@ -24,7 +24,7 @@ returns c = (
         is = c.text-what.ensures.0;
         coded = c.text-what.ensures.1;
         none = λ z. absurd (c.if-what-eq0.false z);
-        some = λ n. record { cursor = c.cursor_at.ensures; framed = c.keep-2.ensures; logged = rw p at (c.keep.ensures (omega (arith, p, h))) };
+        some = λ n. record { cursor = refl; framed = c.keep.ensures; logged = rw p at (c.keep_entry.ensures (omega (arith, p, h))) };
       },
-  λ n. let h = text_ends _ _ _ _ _ (c.text-what.ensures.0 0) (c.text-what.ensures.1 c.if-what-eq0.false) in rw c.cursor_at.ensures (omega arith, omega arith),
+  let h = text_ends _ _ _ _ _ (c.text-what.ensures.0 0) (c.text-what.ensures.1 c.if-what-eq0.false) in (omega arith, omega arith),
 )

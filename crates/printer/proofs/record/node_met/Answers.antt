@@ -1,4 +1,7 @@
-use mathlib.Core.Path.{◌≡◌, refl, ap₂, ◌∙◌}
+use mathlib.Core.Path.{◌≡◌, refl, ap, ap₂, ◌∙◌}
+use Rattle.std.specs.Prelude.{Some}
+use Rattle.std.proofs.lemmas.Option.{IfSome_then}
+use Rattle.rewritten.specs.declared.step.Cursor.{Cursor}
 use Prim.Native.Nat.{ℕ, ◌+◌, ◌*◌, ◌%◌}
 use native.Mathlib.Omega.{arith}
 use Rattle.tree.specs.Read.{byte_at}
@@ -7,7 +10,7 @@ use Rattle.printer.specs.Met.{number_of, Leafed}
 use Rattle.printer.proofs.record.node_met.Goals as goal
 
 pub returns-then-what-eq0 : goal.returns-then-what-eq0
-returns-then-what-eq0 c = (λ p q m h. record { what = c.node-what.result; is = c.node-what.ensures.0 p q m; coded = c.node-what.ensures.1; none = λ z. rw c.refused.ensures refl; some = λ n. absurd (n c.if-what-eq0.true) }, λ n. absurd (n (rw c.refused.ensures refl)))
+returns-then-what-eq0 c = (λ p q m h. record { what = c.node-what.result; is = c.node-what.ensures.0 p q m; coded = c.node-what.ensures.1; none = λ z. refl; some = λ n. absurd (n c.if-what-eq0.true) }, tt)
 
 pub overflow_add-at : goal.overflow_add-at
 overflow_add-at c = omega (arith, c.node-what.ensures.2 c.if-what-eq0.false)
@@ -30,7 +33,7 @@ returns-then-code-eq13 c = (
       literal = λ _. (refl, c.literal_met.ensures.0);
     };
   },
-  λ n. let h = c.literal_met.ensures.1 n in (h.0, omega (arith, h.1)),
+  IfSome_then c.literal_met.result c.literal_met.ensures.1 (λ d h. (h.0, omega (arith, h.1))),
 )
 
 pub overflow_add-at-then-code-gt0 : goal.overflow_add-at-then-code-gt0
@@ -53,7 +56,7 @@ returns-then-code-gt0 c = (
           literal = λ z. absurd (c.if-code-eq13.false z);
         };
   },
-  λ n. let h = c.name_met.ensures.1 n in (h.0, omega (arith, h.1)),
+  IfSome_then c.name_met.result c.name_met.ensures.1 (λ d h. (h.0, omega (arith, h.1))),
 )
 
 pub overflow_add-at-2 : goal.overflow_add-at-2
@@ -71,10 +74,10 @@ returns c = (
         record {
           code = c.leaf_code-code.result;
           leaf = rw (c.peek-kind.ensures.value, c.peek-map.ensures.value) at c.leaf_code-code.ensures;
-          begun = λ z. record { cursor = c.begun.ensures.2; framed = c.begun.ensures.1; placed = c.keep_short.ensures h; logged = rw e at (c.keep.ensures (omega (arith, e))) };
+          begun = λ z. record { cursor = ap (λ (x : Cursor). Some x) c.begun.ensures.2; framed = c.begun.ensures.1; placed = c.keep_short.ensures h; logged = rw e at (c.keep_entry.ensures (omega (arith, e))) };
           name = λ z _. absurd (z (omega (arith, c.if-code-gt0.false)));
           literal = λ z. absurd (c.if-code-eq13.false z);
         };
   },
-  λ n. law.begun_moves c.args.tree.now c.args.frames.now _ _ _ _ (c.node-what.ensures.2 c.if-what-eq0.false) c.begun.ensures.2,
+  law.begun_moves c.args.tree.now c.args.frames.now _ _ _ _ (c.node-what.ensures.2 c.if-what-eq0.false) c.begun.ensures.2,
 )

@@ -1,4 +1,6 @@
-use mathlib.Core.Path.{refl, ◌∙◌}
+use mathlib.Core.Path.{◌≡◌, refl, ◌∙◌}
+use borrow.Author.Rules.{rules}
+use Rattle.std.specs.Prelude.{None}
 use Prim.Native.Nat.{◌%◌}
 use lib.Dec.{eqb}
 use native.Mathlib.Omega.{arith}
@@ -27,123 +29,63 @@ loop-count-init c = (
   },
 )
 
-pub overflow_add-result : goal.overflow_add-result
-overflow_add-result c = omega (arith, c.loop-count.invariant.0, c.loop-count.invariant.1, c.if-tree-gt32768.false)
-
 pub returns-then-at-tree : goal.returns-then-at-tree
 returns-then-at-tree c = λ a b d e f h i j. let x = c.loop-count.invariant.6 (record { kinds = a; fields = b; bits = d; enough = e; marks = f; clean = h; depths = i; numbers = j }) in law.recorded_yes _ _ _ _ _ _ x.reading (moves.found_true c.is_closed.ensures c.if-is_closed.true) _ _ _ x.recording c.if-deep-eq0.true refl c.if-at-tree.true
 
-pub returns-then-deep-eq0 : goal.returns-then-deep-eq0
-returns-then-deep-eq0 c = λ a b d e f h i j. let x = c.loop-count.invariant.6 (record { kinds = a; fields = b; bits = d; enough = e; marks = f; clean = h; depths = i; numbers = j }) in law.recorded_no _ _ (law.ends_early _ _ _ _ _ _ x.reading (moves.found_true c.is_closed.ensures c.if-is_closed.true) c.if-deep-eq0.true c.if-at-tree.false)
-
-pub overflow_sub-deep : goal.overflow_sub-deep
-overflow_sub-deep c = omega (arith, c.if-deep-eq0.false)
-
-pub overflow_sub-deep-then-is_closed : goal.overflow_sub-deep-then-is_closed
-overflow_sub-deep-then-is_closed c = omega (arith, c.if-deep-eq0.false)
-
-pub overflow_add-count : goal.overflow_add-count
-overflow_add-count c = omega (arith, c.loop-count.invariant.0, c.loop-count.invariant.1, c.if-tree-gt32768.false)
-
-pub loop-count-smaller-then-is_closed : goal.loop-count-smaller-then-is_closed
-loop-count-smaller-then-is_closed c = rw c.cursor_at-cursor.ensures (omega (arith, c.if-deep-eq0.false))
+pub returns-else-at-tree : goal.returns-else-at-tree
+returns-else-at-tree c = λ a b d e f h i j. let x = c.loop-count.invariant.6 (record { kinds = a; fields = b; bits = d; enough = e; marks = f; clean = h; depths = i; numbers = j }) in law.recorded_no _ _ (law.ends_early _ _ _ _ _ _ x.reading (moves.found_true c.is_closed.ensures c.if-is_closed.true) c.if-deep-eq0.true c.if-at-tree.false)
 
 pub loop-count-preserved-then-is_closed : goal.loop-count-preserved-then-is_closed
 loop-count-preserved-then-is_closed c = (
-  rw c.cursor_at-cursor.ensures c.loop-count.invariant.0,
-  rw c.cursor_at-cursor.ensures (omega (arith, c.loop-count.invariant.1, c.if-deep-eq0.false)),
+  c.loop-count.invariant.0,
+  (omega (arith, c.loop-count.invariant.1, c.if-deep-eq0.false)),
   c.loop-count.invariant.2,
   c.loop-count.invariant.3,
   c.loop-count.invariant.4,
-  c.keep.auto.log ∙ c.loop-count.invariant.5,
+  c.keep_entry.auto.numbers ∙ c.loop-count.invariant.5,
   λ p.
       let x = c.loop-count.invariant.6 p in
-      meet.next_as _ _ c.cursor_at-cursor.ensures refl refl (c.keep.ensures (meet.closing_fits (eqb (c.loop-count.cursor.top % 2) 0) _ c.closing.ensures)) (meet.closed_goes _ _ _ _ _ _ _ _ _ x.reading x.recording p.enough c.loop-count.invariant.1 (moves.found_true c.is_closed.ensures c.if-is_closed.true) c.if-deep-eq0.false _ c.frame_at.ensures _ c.closing.ensures),
+      meet.next_as _ _ refl refl refl (c.keep_entry.ensures (meet.closing_fits (eqb (c.loop-count.cursor.top % 2) 0) _ c.closing.ensures)) (meet.closed_goes _ _ _ _ _ _ _ _ _ x.reading x.recording p.enough c.loop-count.invariant.1 (moves.found_true c.is_closed.ensures c.if-is_closed.true) c.if-deep-eq0.false _ c.frame_at.ensures _ c.closing.ensures),
 )
 
-pub returns-then-cursor-eq0 : goal.returns-then-cursor-eq0
-returns-then-cursor-eq0 c = λ a b d e f h i j. let p : meet.Lent _ _ _ _ _ _ _ = record { kinds = a; fields = b; bits = d; enough = e; marks = f; clean = h; depths = i; numbers = j } in let x = c.loop-count.invariant.6 p in law.recorded_no _ _ (meet.node_refused _ _ _ _ _ _ _ _ _ x.reading x.recording p.enough c.loop-count.invariant.1 (moves.found_true c.is_closed.ensures c.if-is_closed.false) _ c.rest_of-rest.ensures _ _ _ _ _ c.place_next-place.ensures c.if-place-lt33.true (c.node_met-cursor.ensures.0 p.kinds p.fields p.bits (omega (arith, c.loop-count.invariant.0, c.loop-count.invariant.1, c.if-tree-gt32768.false))) c.if-cursor-eq0.true)
-
-pub overflow_add-count-then-place-lt33 : goal.overflow_add-count-then-place-lt33
-overflow_add-count-then-place-lt33 c = omega (arith, c.loop-count.invariant.0, c.loop-count.invariant.1, c.if-tree-gt32768.false)
-
-pub loop-count-smaller-then-place-lt33 : goal.loop-count-smaller-then-place-lt33
-loop-count-smaller-then-place-lt33 c = let h = c.node_met-cursor.ensures.1 c.if-cursor-eq0.false in omega (arith, h.0, h.1, c.loop-count.invariant.0)
+pub returns-in_err-cursor : goal.returns-in_err-cursor
+returns-in_err-cursor c = λ a b d e f h i j. let p : meet.Lent _ _ _ _ _ _ _ = record { kinds = a; fields = b; bits = d; enough = e; marks = f; clean = h; depths = i; numbers = j } in let x = c.loop-count.invariant.6 p in let y : c.from_residual.result ≡ None = search rules in rw y (law.recorded_no _ _ (meet.node_refused _ _ _ _ _ _ _ _ _ x.reading x.recording p.enough c.loop-count.invariant.1 (moves.found_true c.is_closed.ensures c.if-is_closed.false) _ c.rest_of-rest.ensures _ _ _ _ _ c.place_next-place.ensures c.if-place-lt33.true (c.node_met.ensures.0 p.kinds p.fields p.bits (omega (arith, c.loop-count.invariant.0, c.loop-count.invariant.1, c.if-tree-gt32768.false))) c.in_err-cursor.was))
 
 pub loop-count-preserved-then-place-lt33 : goal.loop-count-preserved-then-place-lt33
-loop-count-preserved-then-place-lt33 c = let h = c.node_met-cursor.ensures.1 c.if-cursor-eq0.false in (h.0, omega (arith, h.1, c.loop-count.invariant.1), c.node_met-cursor.auto.frames ∙ c.loop-count.invariant.2, c.loop-count.invariant.3, c.node_met-cursor.auto.stack ∙ c.loop-count.invariant.4, c.node_met-cursor.auto.log ∙ c.loop-count.invariant.5, λ p. let x = c.loop-count.invariant.6 p in meet.node_goes _ _ _ _ _ _ _ _ _ x.reading x.recording p.enough c.loop-count.invariant.1 (moves.found_true c.is_closed.ensures c.if-is_closed.false) _ c.rest_of-rest.ensures _ _ _ _ _ c.place_next-place.ensures c.if-place-lt33.true (c.node_met-cursor.ensures.0 p.kinds p.fields p.bits (omega (arith, c.loop-count.invariant.0, c.loop-count.invariant.1, c.if-tree-gt32768.false))) c.if-cursor-eq0.false)
-
-pub overflow_add-at : goal.overflow_add-at
-overflow_add-at c = omega (arith, task.hole_ends _ _ _ _ _ (task.next_hole _ _ _ (moves.found_true c.is_closed.ensures c.if-is_closed.false) _ c.place_next-place.ensures c.if-place-lt33.false c.if-top-eq1.true) refl)
-
-pub overflow_add-count-then-top-eq1 : goal.overflow_add-count-then-top-eq1
-overflow_add-count-then-top-eq1 c = omega (arith, c.loop-count.invariant.0, c.loop-count.invariant.1, c.if-tree-gt32768.false)
+loop-count-preserved-then-place-lt33 c = let h = rw c.in_ok-cursor.was at c.node_met.ensures.1 in (h.0, omega (arith, h.1, c.loop-count.invariant.1), c.node_met.auto.frames ∙ c.loop-count.invariant.2, c.loop-count.invariant.3, c.node_met.auto.stack ∙ c.loop-count.invariant.4, c.node_met.auto.log ∙ c.loop-count.invariant.5, λ p. let x = c.loop-count.invariant.6 p in meet.node_goes _ _ _ _ _ _ _ _ _ x.reading x.recording p.enough c.loop-count.invariant.1 (moves.found_true c.is_closed.ensures c.if-is_closed.false) _ c.rest_of-rest.ensures _ _ _ _ _ c.place_next-place.ensures c.if-place-lt33.true (c.node_met.ensures.0 p.kinds p.fields p.bits (omega (arith, c.loop-count.invariant.0, c.loop-count.invariant.1, c.if-tree-gt32768.false))) _ c.in_ok-cursor.was)
 
 pub loop-count-smaller-then-top-eq1 : goal.loop-count-smaller-then-top-eq1
-loop-count-smaller-then-top-eq1 c = let h = task.hole_ends _ _ _ _ _ (task.next_hole _ _ _ (moves.found_true c.is_closed.ensures c.if-is_closed.false) _ c.place_next-place.ensures c.if-place-lt33.false c.if-top-eq1.true) refl in rw c.cursor_at-cursor-then-top-eq1.ensures (omega arith)
+loop-count-smaller-then-top-eq1 c = let h = task.hole_ends _ _ _ _ _ (task.next_hole _ _ _ (moves.found_true c.is_closed.ensures c.if-is_closed.false) _ c.place_next-place.ensures c.if-place-lt33.false c.if-top-eq1.true) refl in (omega arith)
 
 pub loop-count-preserved-then-top-eq1 : goal.loop-count-preserved-then-top-eq1
-loop-count-preserved-then-top-eq1 c = let h = task.hole_ends _ _ _ _ _ (task.next_hole _ _ _ (moves.found_true c.is_closed.ensures c.if-is_closed.false) _ c.place_next-place.ensures c.if-place-lt33.false c.if-top-eq1.true) refl in (rw c.cursor_at-cursor-then-top-eq1.ensures h, rw c.cursor_at-cursor-then-top-eq1.ensures (omega (arith, c.loop-count.invariant.1)), c.loop-count.invariant.2, c.loop-count.invariant.3, c.loop-count.invariant.4, c.keep-then-top-eq1.auto.log ∙ c.loop-count.invariant.5, λ p. let x = c.loop-count.invariant.6 p in meet.next_as _ _ c.cursor_at-cursor-then-top-eq1.ensures refl refl (c.keep-then-top-eq1.ensures (omega arith)) (meet.hole_goes _ _ _ _ _ _ _ _ _ x.reading x.recording p.enough c.loop-count.invariant.1 (moves.found_true c.is_closed.ensures c.if-is_closed.false) _ c.rest_of-rest.ensures (task.next_hole _ _ _ (moves.found_true c.is_closed.ensures c.if-is_closed.false) _ c.place_next-place.ensures c.if-place-lt33.false c.if-top-eq1.true)))
+loop-count-preserved-then-top-eq1 c = let h = task.hole_ends _ _ _ _ _ (task.next_hole _ _ _ (moves.found_true c.is_closed.ensures c.if-is_closed.false) _ c.place_next-place.ensures c.if-place-lt33.false c.if-top-eq1.true) refl in (h, (omega (arith, c.loop-count.invariant.1)), c.loop-count.invariant.2, c.loop-count.invariant.3, c.loop-count.invariant.4, c.keep_entry-then-top-eq1.auto.numbers ∙ c.loop-count.invariant.5, λ p. let x = c.loop-count.invariant.6 p in meet.next_as _ _ refl refl refl (c.keep_entry-then-top-eq1.ensures (omega arith)) (meet.hole_goes _ _ _ _ _ _ _ _ _ x.reading x.recording p.enough c.loop-count.invariant.1 (moves.found_true c.is_closed.ensures c.if-is_closed.false) _ c.rest_of-rest.ensures (task.next_hole _ _ _ (moves.found_true c.is_closed.ensures c.if-is_closed.false) _ c.place_next-place.ensures c.if-place-lt33.false c.if-top-eq1.true)))
 
-pub returns-then-cursor-eq0-2 : goal.returns-then-cursor-eq0-2
-returns-then-cursor-eq0-2 c = λ a b d e f h i j. let p : meet.Lent _ _ _ _ _ _ _ = record { kinds = a; fields = b; bits = d; enough = e; marks = f; clean = h; depths = i; numbers = j } in let x = c.loop-count.invariant.6 p in law.recorded_no _ _ (meet.text_refused _ _ _ _ _ _ _ _ _ x.reading x.recording p.enough c.loop-count.invariant.1 (moves.found_true c.is_closed.ensures c.if-is_closed.false) _ c.rest_of-rest.ensures _ _ c.if-top-eq1.false c.if-class-eq5.true c.text_met-cursor.ensures.0 c.if-cursor-eq0-2.true)
-
-pub overflow_add-count-then-class-eq5 : goal.overflow_add-count-then-class-eq5
-overflow_add-count-then-class-eq5 c = omega (arith, c.loop-count.invariant.0, c.loop-count.invariant.1, c.if-tree-gt32768.false)
-
-pub loop-count-smaller-then-class-eq5 : goal.loop-count-smaller-then-class-eq5
-loop-count-smaller-then-class-eq5 c = let h = c.text_met-cursor.ensures.1 c.if-cursor-eq0-2.false in omega (arith, h.0, h.1, c.loop-count.invariant.0)
+pub returns-in_err-cursor-2 : goal.returns-in_err-cursor-2
+returns-in_err-cursor-2 c = λ a b d e f h i j. let p : meet.Lent _ _ _ _ _ _ _ = record { kinds = a; fields = b; bits = d; enough = e; marks = f; clean = h; depths = i; numbers = j } in let x = c.loop-count.invariant.6 p in let y : c.from_residual-in_err-cursor-2.result ≡ None = search rules in rw y (law.recorded_no _ _ (meet.text_refused _ _ _ _ _ _ _ _ _ x.reading x.recording p.enough c.loop-count.invariant.1 (moves.found_true c.is_closed.ensures c.if-is_closed.false) _ c.rest_of-rest.ensures _ _ c.if-top-eq1.false c.if-class-eq5.true c.text_met.ensures.0 c.in_err-cursor-2.was))
 
 pub loop-count-preserved-then-class-eq5 : goal.loop-count-preserved-then-class-eq5
-loop-count-preserved-then-class-eq5 c = let h = c.text_met-cursor.ensures.1 c.if-cursor-eq0-2.false in (h.0, omega (arith, h.1, c.loop-count.invariant.1), c.loop-count.invariant.2, c.loop-count.invariant.3, c.loop-count.invariant.4, c.text_met-cursor.auto.log ∙ c.loop-count.invariant.5, λ p. let x = c.loop-count.invariant.6 p in meet.text_goes _ _ _ _ _ _ _ _ _ x.reading x.recording p.enough c.loop-count.invariant.1 (moves.found_true c.is_closed.ensures c.if-is_closed.false) _ c.rest_of-rest.ensures _ _ c.if-top-eq1.false c.if-class-eq5.true c.text_met-cursor.ensures.0 c.if-cursor-eq0-2.false)
+loop-count-preserved-then-class-eq5 c = let h = rw c.in_ok-cursor-2.was at c.text_met.ensures.1 in (h.0, omega (arith, h.1, c.loop-count.invariant.1), c.loop-count.invariant.2, c.loop-count.invariant.3, c.loop-count.invariant.4, c.text_met.auto.log ∙ c.loop-count.invariant.5, λ p. let x = c.loop-count.invariant.6 p in meet.text_goes _ _ _ _ _ _ _ _ _ x.reading x.recording p.enough c.loop-count.invariant.1 (moves.found_true c.is_closed.ensures c.if-is_closed.false) _ c.rest_of-rest.ensures _ _ c.if-top-eq1.false c.if-class-eq5.true c.text_met.ensures.0 _ c.in_ok-cursor-2.was)
 
-pub returns-then-cursor-eq0-3 : goal.returns-then-cursor-eq0-3
-returns-then-cursor-eq0-3 c = λ a b d e f h i j. let p : meet.Lent _ _ _ _ _ _ _ = record { kinds = a; fields = b; bits = d; enough = e; marks = f; clean = h; depths = i; numbers = j } in let x = c.loop-count.invariant.6 p in law.recorded_no _ _ (meet.list_refused _ _ _ _ _ _ _ _ _ x.reading x.recording p.enough c.loop-count.invariant.1 (moves.found_true c.is_closed.ensures c.if-is_closed.false) _ c.rest_of-rest.ensures _ _ _ _ c.if-top-eq1.false c.if-class-gt2.true c.if-class-lt5.true _ refl (c.list_met-cursor.ensures.0 (omega (arith, c.loop-count.invariant.0, c.loop-count.invariant.1, c.if-tree-gt32768.false))) c.if-cursor-eq0-3.true)
-
-pub overflow_add-count-then-class-lt5 : goal.overflow_add-count-then-class-lt5
-overflow_add-count-then-class-lt5 c = omega (arith, c.loop-count.invariant.0, c.loop-count.invariant.1, c.if-tree-gt32768.false)
-
-pub loop-count-smaller-then-class-lt5 : goal.loop-count-smaller-then-class-lt5
-loop-count-smaller-then-class-lt5 c = let h = c.list_met-cursor.ensures.1 c.if-cursor-eq0-3.false in omega (arith, h.0, h.1, c.loop-count.invariant.0)
+pub returns-in_err-cursor-3 : goal.returns-in_err-cursor-3
+returns-in_err-cursor-3 c = λ a b d e f h i j. let p : meet.Lent _ _ _ _ _ _ _ = record { kinds = a; fields = b; bits = d; enough = e; marks = f; clean = h; depths = i; numbers = j } in let x = c.loop-count.invariant.6 p in let y : c.from_residual-in_err-cursor-3.result ≡ None = search rules in rw y (law.recorded_no _ _ (meet.list_refused _ _ _ _ _ _ _ _ _ x.reading x.recording p.enough c.loop-count.invariant.1 (moves.found_true c.is_closed.ensures c.if-is_closed.false) _ c.rest_of-rest.ensures _ _ _ _ c.if-top-eq1.false c.if-class-gt2.true c.if-class-lt5.true _ refl (c.list_met.ensures.0 (omega (arith, c.loop-count.invariant.0, c.loop-count.invariant.1, c.if-tree-gt32768.false))) c.in_err-cursor-3.was))
 
 pub loop-count-preserved-then-class-lt5 : goal.loop-count-preserved-then-class-lt5
-loop-count-preserved-then-class-lt5 c = let h = c.list_met-cursor.ensures.1 c.if-cursor-eq0-3.false in (h.0, omega (arith, h.1, c.loop-count.invariant.1), c.list_met-cursor.auto.frames ∙ c.loop-count.invariant.2, c.loop-count.invariant.3, c.list_met-cursor.auto.stack ∙ c.loop-count.invariant.4, c.list_met-cursor.auto.log ∙ c.loop-count.invariant.5, λ p. let x = c.loop-count.invariant.6 p in meet.list_goes _ _ _ _ _ _ _ _ _ x.reading x.recording p.enough c.loop-count.invariant.1 (moves.found_true c.is_closed.ensures c.if-is_closed.false) _ c.rest_of-rest.ensures _ _ _ _ c.if-top-eq1.false c.if-class-gt2.true c.if-class-lt5.true _ refl (c.list_met-cursor.ensures.0 (omega (arith, c.loop-count.invariant.0, c.loop-count.invariant.1, c.if-tree-gt32768.false))) c.if-cursor-eq0-3.false)
+loop-count-preserved-then-class-lt5 c = let h = rw c.in_ok-cursor-3.was at c.list_met.ensures.1 in (h.0, omega (arith, h.1, c.loop-count.invariant.1), c.list_met.auto.frames ∙ c.loop-count.invariant.2, c.loop-count.invariant.3, c.list_met.auto.stack ∙ c.loop-count.invariant.4, c.list_met.auto.log ∙ c.loop-count.invariant.5, λ p. let x = c.loop-count.invariant.6 p in meet.list_goes _ _ _ _ _ _ _ _ _ x.reading x.recording p.enough c.loop-count.invariant.1 (moves.found_true c.is_closed.ensures c.if-is_closed.false) _ c.rest_of-rest.ensures _ _ _ _ c.if-top-eq1.false c.if-class-gt2.true c.if-class-lt5.true _ refl (c.list_met.ensures.0 (omega (arith, c.loop-count.invariant.0, c.loop-count.invariant.1, c.if-tree-gt32768.false))) _ c.in_ok-cursor-3.was)
 
-pub returns-then-cursor-eq0-4 : goal.returns-then-cursor-eq0-4
-returns-then-cursor-eq0-4 c = λ a b d e f h i j. let p : meet.Lent _ _ _ _ _ _ _ = record { kinds = a; fields = b; bits = d; enough = e; marks = f; clean = h; depths = i; numbers = j } in let x = c.loop-count.invariant.6 p in law.recorded_no _ _ (meet.mark_refused _ _ _ _ _ _ _ _ _ x.reading x.recording p.enough c.loop-count.invariant.1 (moves.found_true c.is_closed.ensures c.if-is_closed.false) _ c.rest_of-rest.ensures _ _ _ c.if-top-eq1.false c.if-class-eq6.true c.mark_met-cursor.ensures.0 c.if-cursor-eq0-4.true)
-
-pub overflow_add-count-then-class-eq6 : goal.overflow_add-count-then-class-eq6
-overflow_add-count-then-class-eq6 c = omega (arith, c.loop-count.invariant.0, c.loop-count.invariant.1, c.if-tree-gt32768.false)
-
-pub loop-count-smaller-then-class-eq6 : goal.loop-count-smaller-then-class-eq6
-loop-count-smaller-then-class-eq6 c = let h = c.mark_met-cursor.ensures.1 c.if-cursor-eq0-4.false in omega (arith, h.0, h.1, c.loop-count.invariant.0)
+pub returns-in_err-cursor-4 : goal.returns-in_err-cursor-4
+returns-in_err-cursor-4 c = λ a b d e f h i j. let p : meet.Lent _ _ _ _ _ _ _ = record { kinds = a; fields = b; bits = d; enough = e; marks = f; clean = h; depths = i; numbers = j } in let x = c.loop-count.invariant.6 p in let y : c.from_residual-in_err-cursor-4.result ≡ None = search rules in rw y (law.recorded_no _ _ (meet.mark_refused _ _ _ _ _ _ _ _ _ x.reading x.recording p.enough c.loop-count.invariant.1 (moves.found_true c.is_closed.ensures c.if-is_closed.false) _ c.rest_of-rest.ensures _ _ _ c.if-top-eq1.false c.if-class-eq6.true c.mark_met.ensures.0 c.in_err-cursor-4.was))
 
 pub loop-count-preserved-then-class-eq6 : goal.loop-count-preserved-then-class-eq6
-loop-count-preserved-then-class-eq6 c = let h = c.mark_met-cursor.ensures.1 c.if-cursor-eq0-4.false in (h.0, omega (arith, h.1, c.loop-count.invariant.1), c.loop-count.invariant.2, c.mark_met-cursor.auto.seen ∙ c.loop-count.invariant.3, c.loop-count.invariant.4, c.mark_met-cursor.auto.log ∙ c.loop-count.invariant.5, λ p. let x = c.loop-count.invariant.6 p in meet.mark_goes _ _ _ _ _ _ _ _ _ x.reading x.recording p.enough c.loop-count.invariant.1 (moves.found_true c.is_closed.ensures c.if-is_closed.false) _ c.rest_of-rest.ensures _ _ _ c.if-top-eq1.false c.if-class-eq6.true c.mark_met-cursor.ensures.0 c.if-cursor-eq0-4.false)
+loop-count-preserved-then-class-eq6 c = let h = rw c.in_ok-cursor-4.was at c.mark_met.ensures.1 in (h.0, omega (arith, h.1, c.loop-count.invariant.1), c.loop-count.invariant.2, c.mark_met.auto.seen ∙ c.loop-count.invariant.3, c.loop-count.invariant.4, c.mark_met.auto.log ∙ c.loop-count.invariant.5, λ p. let x = c.loop-count.invariant.6 p in meet.mark_goes _ _ _ _ _ _ _ _ _ x.reading x.recording p.enough c.loop-count.invariant.1 (moves.found_true c.is_closed.ensures c.if-is_closed.false) _ c.rest_of-rest.ensures _ _ _ c.if-top-eq1.false c.if-class-eq6.true c.mark_met.ensures.0 _ c.in_ok-cursor-4.was)
 
-pub overflow_sub-class : goal.overflow_sub-class
-overflow_sub-class c = omega (arith, c.if-class-eq5.false, c.if-class-lt5.false, c.if-class-eq6.false)
-
-pub returns-then-cursor-eq0-5 : goal.returns-then-cursor-eq0-5
-returns-then-cursor-eq0-5 c = λ a b d e f h i j. let p : meet.Lent _ _ _ _ _ _ _ = record { kinds = a; fields = b; bits = d; enough = e; marks = f; clean = h; depths = i; numbers = j } in let x = c.loop-count.invariant.6 p in law.recorded_no _ _ (meet.byte_refused _ _ _ _ _ _ _ _ _ x.reading x.recording p.enough c.loop-count.invariant.1 (moves.found_true c.is_closed.ensures c.if-is_closed.false) _ c.rest_of-rest.ensures _ _ c.if-top-eq1.false (omega (arith, c.if-class-eq5.false, c.if-class-lt5.false, c.if-class-eq6.false)) c.if-class-lt10.true c.byte_met-cursor.ensures.0 c.if-cursor-eq0-5.true)
-
-pub overflow_add-count-then-class-lt10 : goal.overflow_add-count-then-class-lt10
-overflow_add-count-then-class-lt10 c = omega (arith, c.loop-count.invariant.0, c.loop-count.invariant.1, c.if-tree-gt32768.false)
-
-pub loop-count-smaller-then-class-lt10 : goal.loop-count-smaller-then-class-lt10
-loop-count-smaller-then-class-lt10 c = let h = c.byte_met-cursor.ensures.1 c.if-cursor-eq0-5.false in omega (arith, h.0, h.1, c.loop-count.invariant.0)
+pub returns-in_err-cursor-5 : goal.returns-in_err-cursor-5
+returns-in_err-cursor-5 c = λ a b d e f h i j. let p : meet.Lent _ _ _ _ _ _ _ = record { kinds = a; fields = b; bits = d; enough = e; marks = f; clean = h; depths = i; numbers = j } in let x = c.loop-count.invariant.6 p in let y : c.from_residual-in_err-cursor-5.result ≡ None = search rules in rw y (law.recorded_no _ _ (meet.byte_refused _ _ _ _ _ _ _ _ _ x.reading x.recording p.enough c.loop-count.invariant.1 (moves.found_true c.is_closed.ensures c.if-is_closed.false) _ c.rest_of-rest.ensures _ _ c.if-top-eq1.false (omega (arith, c.if-class-eq5.false, c.if-class-lt5.false, c.if-class-eq6.false)) c.if-class-lt10.true c.byte_met.ensures.0 c.in_err-cursor-5.was))
 
 pub loop-count-preserved-then-class-lt10 : goal.loop-count-preserved-then-class-lt10
-loop-count-preserved-then-class-lt10 c = let h = c.byte_met-cursor.ensures.1 c.if-cursor-eq0-5.false in (h.0, omega (arith, h.1, c.loop-count.invariant.1), c.loop-count.invariant.2, c.loop-count.invariant.3, c.loop-count.invariant.4, c.byte_met-cursor.auto.log ∙ c.loop-count.invariant.5, λ p. let x = c.loop-count.invariant.6 p in meet.byte_goes _ _ _ _ _ _ _ _ _ x.reading x.recording p.enough c.loop-count.invariant.1 (moves.found_true c.is_closed.ensures c.if-is_closed.false) _ c.rest_of-rest.ensures _ _ c.if-top-eq1.false (omega (arith, c.if-class-eq5.false, c.if-class-lt5.false, c.if-class-eq6.false)) c.if-class-lt10.true c.byte_met-cursor.ensures.0 c.if-cursor-eq0-5.false)
+loop-count-preserved-then-class-lt10 c = let h = rw c.in_ok-cursor-5.was at c.byte_met.ensures.1 in (h.0, omega (arith, h.1, c.loop-count.invariant.1), c.loop-count.invariant.2, c.loop-count.invariant.3, c.loop-count.invariant.4, c.byte_met.auto.log ∙ c.loop-count.invariant.5, λ p. let x = c.loop-count.invariant.6 p in meet.byte_goes _ _ _ _ _ _ _ _ _ x.reading x.recording p.enough c.loop-count.invariant.1 (moves.found_true c.is_closed.ensures c.if-is_closed.false) _ c.rest_of-rest.ensures _ _ c.if-top-eq1.false (omega (arith, c.if-class-eq5.false, c.if-class-lt5.false, c.if-class-eq6.false)) c.if-class-lt10.true c.byte_met.ensures.0 _ c.in_ok-cursor-5.was)
 
-pub returns-then-cursor-eq0-6 : goal.returns-then-cursor-eq0-6
-returns-then-cursor-eq0-6 c = λ a b d e f h i j. let p : meet.Lent _ _ _ _ _ _ _ = record { kinds = a; fields = b; bits = d; enough = e; marks = f; clean = h; depths = i; numbers = j } in let x = c.loop-count.invariant.6 p in law.recorded_no _ _ (meet.number_refused _ _ _ _ _ _ _ _ _ x.reading x.recording p.enough c.loop-count.invariant.1 (moves.found_true c.is_closed.ensures c.if-is_closed.false) _ c.rest_of-rest.ensures _ _ _ c.place_next-place.ensures c.if-place-lt33.false c.if-top-eq1.false (λ y. (elim c.if-class-gt2.branch [ then-class-gt2+else-class-lt5+else-class-eq6+else-class-lt10 w ↦ omega (arith, w.if-class-lt10.false) | else-class-gt2 w ↦ omega (arith, y, w.if-class-gt2.false) ])) c.number_met-cursor.ensures.0 c.if-cursor-eq0-6.true)
-
-pub overflow_add-count-in-loop-count : goal.overflow_add-count-in-loop-count
-overflow_add-count-in-loop-count c = omega (arith, c.loop-count.invariant.0, c.loop-count.invariant.1, c.if-tree-gt32768.false)
-
-pub loop-count-smaller : goal.loop-count-smaller
-loop-count-smaller c = let h = c.number_met-cursor.ensures.1 c.if-cursor-eq0-6.false in omega (arith, h.0, h.1, c.loop-count.invariant.0)
+pub returns-in_err-cursor-6 : goal.returns-in_err-cursor-6
+returns-in_err-cursor-6 c = λ a b d e f h i j. let p : meet.Lent _ _ _ _ _ _ _ = record { kinds = a; fields = b; bits = d; enough = e; marks = f; clean = h; depths = i; numbers = j } in let x = c.loop-count.invariant.6 p in let y : c.from_residual-in_err-cursor-6.result ≡ None = search rules in rw y (law.recorded_no _ _ (meet.number_refused _ _ _ _ _ _ _ _ _ x.reading x.recording p.enough c.loop-count.invariant.1 (moves.found_true c.is_closed.ensures c.if-is_closed.false) _ c.rest_of-rest.ensures _ _ _ c.place_next-place.ensures c.if-place-lt33.false c.if-top-eq1.false (λ y. (elim c.if-class-gt2.branch [ then-class-gt2+else-class-lt5+else-class-eq6+else-class-lt10 w ↦ omega (arith, w.if-class-lt10.false) | else-class-gt2 w ↦ omega (arith, y, w.if-class-gt2.false) ])) c.number_met.ensures.0 c.in_err-cursor-6.was))
 
 pub loop-count-preserved : goal.loop-count-preserved
-loop-count-preserved c = let h = c.number_met-cursor.ensures.1 c.if-cursor-eq0-6.false in (h.0, omega (arith, h.1, c.loop-count.invariant.1), c.loop-count.invariant.2, c.loop-count.invariant.3, c.loop-count.invariant.4, c.number_met-cursor.auto.log ∙ c.loop-count.invariant.5, λ p. let x = c.loop-count.invariant.6 p in meet.number_goes _ _ _ _ _ _ _ _ _ x.reading x.recording p.enough c.loop-count.invariant.1 (moves.found_true c.is_closed.ensures c.if-is_closed.false) _ c.rest_of-rest.ensures _ _ _ c.place_next-place.ensures c.if-place-lt33.false c.if-top-eq1.false (λ y. (elim c.if-class-gt2.branch [ then-class-gt2+else-class-lt5+else-class-eq6+else-class-lt10 w ↦ omega (arith, w.if-class-lt10.false) | else-class-gt2 w ↦ omega (arith, y, w.if-class-gt2.false) ])) c.number_met-cursor.ensures.0 c.if-cursor-eq0-6.false)
+loop-count-preserved c = let h = rw c.in_ok-cursor-6.was at c.number_met.ensures.1 in (h.0, omega (arith, h.1, c.loop-count.invariant.1), c.loop-count.invariant.2, c.loop-count.invariant.3, c.loop-count.invariant.4, c.number_met.auto.log ∙ c.loop-count.invariant.5, λ p. let x = c.loop-count.invariant.6 p in meet.number_goes _ _ _ _ _ _ _ _ _ x.reading x.recording p.enough c.loop-count.invariant.1 (moves.found_true c.is_closed.ensures c.if-is_closed.false) _ c.rest_of-rest.ensures _ _ _ c.place_next-place.ensures c.if-place-lt33.false c.if-top-eq1.false (λ y. (elim c.if-class-gt2.branch [ then-class-gt2+else-class-lt5+else-class-eq6+else-class-lt10 w ↦ omega (arith, w.if-class-lt10.false) | else-class-gt2 w ↦ omega (arith, y, w.if-class-gt2.false) ])) c.number_met.ensures.0 _ c.in_ok-cursor-6.was)

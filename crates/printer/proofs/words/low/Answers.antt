@@ -1,8 +1,6 @@
 use Rattle.printer.proofs.LayoutNumbers as law
+use mathlib.Core.Path.{◌∙◌}
 use Rattle.printer.proofs.words.low.Goals as goal
 
-pub returns-then-id-words : goal.returns-then-id-words
-returns-then-id-words c e = law.low_in _ _ e
-
 pub returns : goal.returns
-returns c e = law.low_past _ _ c.if-id-words.false e
+returns c e = c.number_at.ensures ∙ law.low_in _ _ e
