@@ -22,6 +22,14 @@ use Rattle.sink.specs.declared.Sink.{Sink}
 
 -- ---- numbers and bytes
 
+pub more_below : (g n : ℕ) → n < g → n + 1 ≡ one_more_of g n
+unfolding one_more_of
+more_below g n h = rw (lt-ltb n g h)
+
+pub more_at : (g n : ℕ) → g ≤ n → g ≡ one_more_of g n
+unfolding one_more_of
+more_at g n h = rw (le-ltb n g h)
+
 pub set_wide_out : (l : List ℕ) (at n : ℕ) → length l ≤ at → l ≡ set_wide l at n
 unfolding set_wide
 set_wide_out l at n h = sym (ap (λ (x : List ℕ). set x (at + 1) (high n)) (set_out l at (low n) h) ∙ set_out l (at + 1) (high n) (omega arith))
