@@ -29,10 +29,8 @@ use Rattle.pattern.specs.declared.parts.Run.{Run}
 use Rattle.pattern.specs.declared.keys.Key.{Key}
 use Rattle.pattern.specs.declared.keys.Key.TheVariants as variants
 use Rattle.pattern.specs.declared.keys.Key.TheVariants.{OtherForm, Template, Private, Again, Other}
-use Rattle.pattern.specs.declared.numbers.Spelling.{Spelling}
-use Rattle.pattern.specs.declared.numbers.Spelling.TheVariants.{Decimal, Hexadecimal, Another}
 use Rattle.pattern.specs.Parts.{Content, part_at, text_in_of, standing, place_of, run_of}
-use Rattle.pattern.specs.Numbers.{Numeral, spelling_value, spelled_as_of, is_string_of}
+use Rattle.pattern.specs.Numbers.{Numeral, spelled_as_of, is_string_of}
 use Rattle.pattern.specs.Tally as tally
 use Rattle.pattern.specs.Tally.{Totals, limited, both, sum}
 use Rattle.pattern.specs.Keys.{name_in_of, form_in, beside_form, literal_by, literal_in, literal_at, key_at, Becomes, key_refusal, key_entry, sort_of_key, key_values, Keyed, counts, counts_by, key_counts, key_tally, keys_of, item_keys}
@@ -259,17 +257,17 @@ module _ (l : List ℕ) where
 
   -- ---- by what its spelling is
 
-  pub by_decimal : (x : Spelling) (s p : Content) (v : ℕ) → x ≡ Decimal v → (a : Key) → a ≡ form_in s → (r : Key) → r ≡ beside_form l v a p → r ≡ literal_by l (spelling_value x) s p
+  pub by_decimal : (x : Numeral) (s p : Content) (v : ℕ) → x ≡ Numeral.decimal v → (a : Key) → a ≡ form_in s → (r : Key) → r ≡ beside_form l v a p → r ≡ literal_by l x s p
   unfolding literal_by
-  by_decimal x s p v e a f r g = g ∙ ap (λ (k : Key). beside_form l v k p) f ∙ ap (λ (y : Spelling). literal_by l (spelling_value y) s p) (sym e)
+  by_decimal x s p v e a f r g = g ∙ ap (λ (k : Key). beside_form l v k p) f ∙ ap (λ (y : Numeral). literal_by l y s p) (sym e)
 
-  pub by_hexadecimal : (x : Spelling) (s p : Content) (v : ℕ) → x ≡ Hexadecimal v → (r : Key) → r ≡ beside_form l v (variants.Number v) p → r ≡ literal_by l (spelling_value x) s p
+  pub by_hexadecimal : (x : Numeral) (s p : Content) (v : ℕ) → x ≡ Numeral.hexadecimal v → (r : Key) → r ≡ beside_form l v (variants.Number v) p → r ≡ literal_by l x s p
   unfolding literal_by
-  by_hexadecimal x s p v e r g = g ∙ ap (λ (y : Spelling). literal_by l (spelling_value y) s p) (sym e)
+  by_hexadecimal x s p v e r g = g ∙ ap (λ (y : Numeral). literal_by l y s p) (sym e)
 
-  pub by_another : (x : Spelling) (s p : Content) → x ≡ Another → (r : Key) → r ≡ form_in p → r ≡ literal_by l (spelling_value x) s p
+  pub by_another : (x : Numeral) (s p : Content) → x ≡ Numeral.another → (r : Key) → r ≡ form_in p → r ≡ literal_by l x s p
   unfolding literal_by
-  by_another x s p e r g = g ∙ ap (λ (y : Spelling). literal_by l (spelling_value y) s p) (sym e)
+  by_another x s p e r g = g ∙ ap (λ (y : Numeral). literal_by l y s p) (sym e)
 
   -- ---- by its sort
 

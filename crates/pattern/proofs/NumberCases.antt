@@ -9,8 +9,8 @@ use mathlib.Core.List.{List, [], ◌∷◌, ◌++◌, append_assoc, append-nil}
 use Prim.Native.Nat.{ℕ, zero, suc, ◌+◌, ◌-◌, ◌*◌, ◌/◌, ◌%◌, ◌≤◌, ◌<◌}
 use native.Mathlib.Omega.{arith}
 use lib.Dec.{eqb, ltb}
-use lib.ListN.{length, drop, take, set, drop_of_length-le, length-set}
-use lib.Seq.{drop-cons, set_split, drop_at, length-take-le}
+use lib.ListN.{length, get_or, drop, take, set, drop_of_length-le, length-set}
+use lib.Seq.{take_all, drop-cons, set_split, drop_at, length-take-le}
 use borrow.Author.Tests.{ltb-true, ltb-false, lt-ltb, le-ltb, eqb-true, eq-eqb, ne_eqb}
 use Rattle.tree.specs.Read.{byte_at}
 use Rattle.tree.specs.Answer.{Peeked}
@@ -20,7 +20,11 @@ use Rattle.lowering.proofs.NumberLaws.{value_grows, digits_one, digits_more, dig
 use Rattle.lowering.proofs.Appearance.{same_numbers_lem, numbers_self}
 use Rattle.lowering.specs.Parts.{same_numbers}
 use Rattle.lowering.proofs.Cases.{by_test, and_left}
-use Rattle.pattern.specs.Numbers.{Numeral, base_of, value_in, decimal_in, hexadecimal_in, spelled_as_of, is_string_of}
+use Rattle.std.specs.Prelude as std
+use Rattle.std.specs.Prelude.{Some, None, IfSome, unwrap_or, option_map}
+use Rattle.pattern.specs.declared.numbers.Spelling.{Spelling}
+use Rattle.pattern.specs.declared.numbers.Spelling.TheVariants.{Decimal, Hexadecimal}
+use Rattle.pattern.specs.Numbers.{Numeral, spelling_value, base_of, value_in, decimal_in, hexadecimal_in, spelled_as_of, is_string_of}
 
 -- ---- the value of a digit
 
@@ -96,20 +100,20 @@ value_high h v bs n =
     go false = refl
 
 -- the digits up to i have the value v
-pub record Reading (h : Bool) (l : List ℕ) (from b v i : ℕ) : Type 0 where
+pub record Reading (h : Bool) (l : List ℕ) (b v i : ℕ) : Type 0 where
   pub low : v ≤ highest_number
   pub base : b ≡ base_of h
-  pub same : value_in (base_of h) v (drop i l) ≡ value_in (base_of h) 0 (drop from l)
+  pub same : value_in (base_of h) v (drop i l) ≡ value_in (base_of h) 0 l
 
-pub reading_start : (h : Bool) (l : List ℕ) (from b : ℕ) → b ≡ base_of h → Reading h l from b 0 from
-reading_start h l from b e = record { low = omega arith; base = e; same = refl }
+pub reading_start : (h : Bool) (l : List ℕ) (b : ℕ) → b ≡ base_of h → Reading h l b 0 0
+reading_start h l b e = record { low = omega arith; base = e; same = refl }
 
-module _ (h : Bool) (l : List ℕ) (from b v i : ℕ) (r : Reading h l from b v i) where
+module _ (h : Bool) (l : List ℕ) (b v i : ℕ) (r : Reading h l b v i) where
   ended : v ≡ value_in (base_of h) v []
   unfolding value_in are_digits value_from
   ended = rw (le-ltb highest_number v r.low)
 
-  pub reading_end : length l ≤ i → v ≡ value_in (base_of h) 0 (drop from l)
+  pub reading_end : length l ≤ i → v ≡ value_in (base_of h) 0 l
   reading_end k = ended ∙ ap (value_in (base_of h) v) (sym (drop_of_length-le l {i = i} k)) ∙ r.same
 
   -- at a byte of the text, with the value d as a digit
@@ -119,28 +123,31 @@ module _ (h : Bool) (l : List ℕ) (from b v i : ℕ) (r : Reading h l from b v 
   pub sum_fits : (d : ℕ) → d < b → v * b + d ≤ 144115188075855872
   sum_fits d m = let p = product_fits in let q = base_low h b r.base in omega arith
 
-  module _ (d x : ℕ) (k : i < length l) (p : Peeked l i x) (q : d ≡ digit_of x) where
-    opened : drop i l ≡ x ∷ drop (suc i) l
-    unfolding byte_at
-    opened = drop-cons l i 256 k ∙ ap (λ (y : ℕ). y ∷ drop (suc i) l) (sym p.value)
+  module _ (d : ℕ) (k : i < length l) (q : d ≡ digit_of (get_or l i 0)) where
+    opened : drop i l ≡ get_or l i 0 ∷ drop (suc i) l
+    opened = drop-cons l i 0 k
 
-    pub reading_stops : b ≤ d → suc highest_number ≡ value_in (base_of h) 0 (drop from l)
-    reading_stops m = let e = r.base in value_not h v x (drop (suc i) l) (omega arith) ∙ ap (value_in (base_of h) v) (sym opened) ∙ r.same
+    pub reading_stops : b ≤ d → suc highest_number ≡ value_in (base_of h) 0 l
+    reading_stops m = let e = r.base in value_not h v (get_or l i 0) (drop (suc i) l) (omega arith) ∙ ap (value_in (base_of h) v) (sym opened) ∙ r.same
 
-    next : d < b → value_in (base_of h) (v * b + d) (drop (i + 1) l) ≡ value_in (base_of h) 0 (drop from l)
+    -- a byte that is no digit has the value 16
+    pub reading_none : d ≡ 16 → suc highest_number ≡ value_in (base_of h) 0 l
+    reading_none m = let e = base_low h b r.base in reading_stops (omega arith)
+
+    next : d < b → value_in (base_of h) (v * b + d) (drop (i + 1) l) ≡ value_in (base_of h) 0 l
     next m =
         let e : i + 1 ≡ suc i = omega arith in
         let z = r.base in
         ap₂ (λ (y j : ℕ). value_in (base_of h) (v * y + d) (drop j l)) z e
         ∙ ap (λ (y : ℕ). value_in (base_of h) (v * base_of h + y) (drop (suc i) l)) q
-        ∙ sym (value_digit h v x (drop (suc i) l) (omega arith))
+        ∙ sym (value_digit h v (get_or l i 0) (drop (suc i) l) (omega arith))
         ∙ ap (value_in (base_of h) v) (sym opened)
         ∙ r.same
 
-    pub reading_high : d < b → highest_number < v * b + d → suc highest_number ≡ value_in (base_of h) 0 (drop from l)
+    pub reading_high : d < b → highest_number < v * b + d → suc highest_number ≡ value_in (base_of h) 0 l
     reading_high m n = value_high h (v * b + d) (drop (i + 1) l) n ∙ next m
 
-    pub reading_on : d < b → v * b + d ≤ highest_number → Reading h l from b (v * b + d) (i + 1)
+    pub reading_on : d < b → v * b + d ≤ highest_number → Reading h l b (v * b + d) (i + 1)
     reading_on m n = record { low = n; base = r.base; same = next m }
 
 -- ---- a number by its value
@@ -160,6 +167,22 @@ hexadecimal_high v h = rw (lt-ltb highest_number v h)
 pub hexadecimal_low : (v : ℕ) → v ≤ highest_number → Numeral.hexadecimal v ≡ hexadecimal_in v
 unfolding hexadecimal_in
 hexadecimal_low v h = rw (le-ltb highest_number v h)
+
+-- what was read, by its value
+module _ (r : std.Option ℕ) (o : std.Option Spelling) (low : IfSome r (λ v. v ≤ highest_number)) where
+  pub decimal_read : o ≡ option_map Decimal r → spelling_value o ≡ decimal_in (unwrap_or r (suc highest_number))
+  decimal_read e = ap spelling_value e ∙ go r low
+    where
+      go : (r : std.Option ℕ) → IfSome r (λ v. v ≤ highest_number) → spelling_value (option_map Decimal r) ≡ decimal_in (unwrap_or r (suc highest_number))
+      go None h = decimal_high (suc highest_number) (omega arith)
+      go (Some v) h = decimal_low v h
+
+  pub hexadecimal_read : o ≡ option_map Hexadecimal r → spelling_value o ≡ hexadecimal_in (unwrap_or r (suc highest_number))
+  hexadecimal_read e = ap spelling_value e ∙ go r low
+    where
+      go : (r : std.Option ℕ) → IfSome r (λ v. v ≤ highest_number) → spelling_value (option_map Hexadecimal r) ≡ hexadecimal_in (unwrap_or r (suc highest_number))
+      go None h = hexadecimal_high (suc highest_number) (omega arith)
+      go (Some v) h = hexadecimal_low v h
 
 -- ---- what a text is
 
@@ -212,17 +235,17 @@ unfolding spelled_as_of spelling_of
 spelled_empty [] h = refl
 spelled_empty (b ∷ l) h = absurd (omega arith)
 
-pub spelled_one : (l : List ℕ) (v : ℕ) (r : Numeral) → length l ≡ 1 → v ≡ value_in 10 0 (drop 0 l) → r ≡ decimal_in v → r ≡ spelled_as_of l
+pub spelled_one : (l : List ℕ) (v : ℕ) (r : Numeral) → length l ≡ 1 → v ≡ value_in 10 0 l → r ≡ decimal_in v → r ≡ spelled_as_of l
 unfolding spelling_of spelling_of_one
 spelled_one [] v r h e f = absurd (omega arith)
 spelled_one (b ∷ []) v r h e f = f ∙ ap decimal_in e ∙ decimal_is (b ∷ []) ∙ spelled_as (b ∷ [])
 spelled_one (b ∷ c ∷ l) v r h e f = absurd (omega arith)
 
-pub spelled_decimal : (l : List ℕ) (x v : ℕ) (r : Numeral) → (length l ≡ 0 → ⊥) → (length l ≡ 1 → ⊥) → Peeked l 0 x → (x ≡ 48 → ⊥) → v ≡ value_in 10 0 (drop 0 l) → r ≡ decimal_in v → r ≡ spelled_as_of l
+pub spelled_decimal : (l : List ℕ) (x v : ℕ) (r : Numeral) → 1 < length l → Peeked l 0 x → (x ≡ 48 → ⊥) → v ≡ value_in 10 0 l → r ≡ decimal_in v → r ≡ spelled_as_of l
 unfolding spelling_of byte_at
-spelled_decimal [] x v r h k p n e f = absurd (h refl)
-spelled_decimal (b ∷ []) x v r h k p n e f = absurd (k refl)
-spelled_decimal (b ∷ c ∷ l) x v r h k p n e f =
+spelled_decimal [] x v r h p n e f = absurd (omega arith)
+spelled_decimal (b ∷ []) x v r h p n e f = absurd (omega arith)
+spelled_decimal (b ∷ c ∷ l) x v r h p n e f =
     f ∙ ap decimal_in e ∙ decimal_is (b ∷ c ∷ l)
     ∙ ap (λ (t : Bool). named (cond t (spelling_behind_zero (c ∷ l)) (cond (are_digits 10 (b ∷ c ∷ l)) (numbers.Spelling.decimal (b ∷ c ∷ l)) numbers.Spelling.another))) (sym (ne_eqb b 48 (λ z. n (p.value ∙ z))))
     ∙ spelled_as (b ∷ c ∷ l)
@@ -234,12 +257,12 @@ behind_zero b c l x p e =
     ap (λ (t : Bool). named (cond t (spelling_behind_zero (c ∷ l)) (cond (are_digits 10 (b ∷ c ∷ l)) (numbers.Spelling.decimal (b ∷ c ∷ l)) numbers.Spelling.another))) (sym (eq-eqb b 48 (sym p.value ∙ e)))
     ∙ spelled_as (b ∷ c ∷ l)
 
-pub spelled_no_x : (l : List ℕ) (x y : ℕ) → (length l ≡ 0 → ⊥) → (length l ≡ 1 → ⊥) → Peeked l 0 x → x ≡ 48 → Peeked l 1 y → (y ≡ 120 → ⊥) → Numeral.another ≡ spelled_as_of l
+pub spelled_no_x : (l : List ℕ) (x y : ℕ) → 2 < length l → Peeked l 0 x → x ≡ 48 → Peeked l 1 y → (y ≡ 120 → ⊥) → Numeral.another ≡ spelled_as_of l
 unfolding spelling_behind_zero byte_at
-spelled_no_x [] x y h k p e q n = absurd (h refl)
-spelled_no_x (b ∷ []) x y h k p e q n = absurd (k refl)
-spelled_no_x (b ∷ c ∷ []) x y h k p e q n = behind_zero b c [] x p e
-spelled_no_x (b ∷ c ∷ d ∷ l) x y h k p e q n =
+spelled_no_x [] x y h p e q n = absurd (omega arith)
+spelled_no_x (b ∷ []) x y h p e q n = absurd (omega arith)
+spelled_no_x (b ∷ c ∷ []) x y h p e q n = absurd (omega arith)
+spelled_no_x (b ∷ c ∷ d ∷ l) x y h p e q n =
     ap (λ (t : Bool). named (cond (t && are_digits 16 (d ∷ l)) (numbers.Spelling.hexadecimal (d ∷ l)) numbers.Spelling.another)) (sym (ne_eqb c 120 (λ z. n (q.value ∙ z))))
     ∙ behind_zero b c (d ∷ l) x p e
 
@@ -250,14 +273,14 @@ spelled_no_digit (b ∷ []) x h p e = absurd (omega arith)
 spelled_no_digit (b ∷ c ∷ []) x h p e = behind_zero b c [] x p e
 spelled_no_digit (b ∷ c ∷ d ∷ l) x h p e = absurd (omega arith)
 
-pub spelled_hexadecimal : (l : List ℕ) (x y v : ℕ) (r : Numeral) → (length l ≡ 0 → ⊥) → (length l ≡ 1 → ⊥) → (length l ≡ 2 → ⊥) → Peeked l 0 x → x ≡ 48 → Peeked l 1 y → y ≡ 120
-    → v ≡ value_in 16 0 (drop 2 l) → r ≡ hexadecimal_in v → r ≡ spelled_as_of l
+pub spelled_hexadecimal : (l : List ℕ) (x y v : ℕ) (r : Numeral) → 2 < length l → Peeked l 0 x → x ≡ 48 → Peeked l 1 y → y ≡ 120
+    → v ≡ value_in 16 0 (take (length l - 2) (drop 2 l)) → r ≡ hexadecimal_in v → r ≡ spelled_as_of l
 unfolding spelling_behind_zero byte_at
-spelled_hexadecimal [] x y v r h k m p e q n w f = absurd (h refl)
-spelled_hexadecimal (b ∷ []) x y v r h k m p e q n w f = absurd (k refl)
-spelled_hexadecimal (b ∷ c ∷ []) x y v r h k m p e q n w f = absurd (m refl)
-spelled_hexadecimal (b ∷ c ∷ d ∷ l) x y v r h k m p e q n w f =
-    f ∙ ap hexadecimal_in w ∙ hexadecimal_is (d ∷ l)
+spelled_hexadecimal [] x y v r h p e q n w f = absurd (omega arith)
+spelled_hexadecimal (b ∷ []) x y v r h p e q n w f = absurd (omega arith)
+spelled_hexadecimal (b ∷ c ∷ []) x y v r h p e q n w f = absurd (omega arith)
+spelled_hexadecimal (b ∷ c ∷ d ∷ l) x y v r h p e q n w f =
+    f ∙ ap hexadecimal_in (w ∙ ap (value_in 16 0) (take_all (length (b ∷ c ∷ d ∷ l) - 2) (d ∷ l) (omega arith))) ∙ hexadecimal_is (d ∷ l)
     ∙ ap (λ (t : Bool). named (cond (t && are_digits 16 (d ∷ l)) (numbers.Spelling.hexadecimal (d ∷ l)) numbers.Spelling.another)) (sym (eq-eqb c 120 (sym q.value ∙ n)))
     ∙ behind_zero b c (d ∷ l) x p e
 

@@ -1,9 +1,9 @@
 -- What a text is as a number, with the value of a number that is promised a string.
-use Rattle.std.specs.Prelude.{ℕ, suc, Bool, false, cond, not, ◌&&◌, List, eqb, ltb}
+use Rattle.std.specs.Prelude.{ℕ, suc, Bool, false, cond, not, ◌&&◌, List, eqb, ltb, Option, Some, None}
 use Rattle.lowering.specs.Numbers as numbers
 use Rattle.lowering.specs.Numbers.{are_digits, value_from, spelling_of, highest_number}
 use Rattle.pattern.specs.declared.numbers.Spelling.{Spelling}
-use Rattle.pattern.specs.declared.numbers.Spelling.TheVariants.{Decimal, Hexadecimal, Another}
+use Rattle.pattern.specs.declared.numbers.Spelling.TheVariants.{Decimal, Hexadecimal}
 
 -- decimal or hexadecimal, with the value; or another spelling, or a value for which no string is promised
 pub data Numeral : Type 0 where
@@ -12,10 +12,10 @@ pub data Numeral : Type 0 where
   another : Numeral
 
 -- the value of each case of the code's answer. Document 01 has no number for it: nothing is refused
-abbrev pub spelling_value : Spelling → Numeral
-spelling_value (Decimal v) = decimal v
-spelling_value (Hexadecimal v) = hexadecimal v
-spelling_value Another = another
+abbrev pub spelling_value : Option Spelling → Numeral
+spelling_value None = another
+spelling_value (Some (Decimal v)) = decimal v
+spelling_value (Some (Hexadecimal v)) = hexadecimal v
 
 abbrev pub base_of : Bool → ℕ
 base_of isHexadecimal = cond isHexadecimal 16 10

@@ -58,7 +58,7 @@ fn formed(p: Option<Part>) -> Key
 }
 
 // What a text is as a number.
-fn spelled_in(tree: &[u8], p: Option<Part>) -> Spelling
+fn spelled_in(tree: &[u8], p: Option<Part>) -> Option<Spelling>
     ensures { spelling_value result ≡ spelled_as_of (text_in_of tree.now (field_values p)) }
 {
     match p {
@@ -67,20 +67,19 @@ fn spelled_in(tree: &[u8], p: Option<Part>) -> Spelling
             if from <= to {
                 return numbers::spelled(&tree[from..to]);
             }
-            Spelling::Another
+            None
         }
-        _ => Spelling::Another,
+        _ => None,
     }
 }
 
 // Whether it is the string of a value.
-fn is_string(s: Spelling, value: usize) -> bool
+fn is_string(s: Option<Spelling>, value: usize) -> bool
     ensures { result ≡ is_string_of value (spelling_value s) }
 {
     match s {
-        Spelling::Decimal(v) => v == value,
-        Spelling::Hexadecimal(_) => false,
-        Spelling::Another => false,
+        Some(Spelling::Decimal(v)) => v == value,
+        _ => false,
     }
 }
 
@@ -98,13 +97,13 @@ fn beside_form(tree: &[u8], value: usize, alone: Key, form: Option<Part>) -> Key
 }
 
 // A literal by what its spelling is.
-fn literal_by(tree: &[u8], s: Spelling, spelling: Option<Part>, form: Option<Part>) -> Key
+fn literal_by(tree: &[u8], s: Option<Spelling>, spelling: Option<Part>, form: Option<Part>) -> Key
     ensures { Keyed result (literal_by tree.now (spelling_value s) (field_values spelling) (field_values form)) }
 {
     match s {
-        Spelling::Decimal(v) => beside_form(tree, v, formed(spelling), form),
-        Spelling::Hexadecimal(v) => beside_form(tree, v, Key::Number { value: v }, form),
-        Spelling::Another => formed(form),
+        Some(Spelling::Decimal(v)) => beside_form(tree, v, formed(spelling), form),
+        Some(Spelling::Hexadecimal(v)) => beside_form(tree, v, Key::Number { value: v }, form),
+        None => formed(form),
     }
 }
 

@@ -1,115 +1,75 @@
 // The string of a number by its spelling: what a text is, and the digits of a value.
-ghost use Rattle.std.specs.Prelude.{◌≡◌, ◌≤◌, length, drop};
-ghost use Rattle.lowering.specs.Numbers.{digit_of, digits_of};
-ghost use Rattle.pattern.specs.Numbers.{spelling_value, base_of, value_in, decimal_in, hexadecimal_in, spelled_as_of};
+ghost use Rattle.std.specs.Prelude.{◌≡◌, ◌≤◌, suc, length, drop, IfSome, unwrap_or};
+ghost use Rattle.lowering.specs.Numbers.{digit_of, digits_of, highest_number};
+ghost use Rattle.pattern.specs.Numbers.{spelling_value, base_of, value_in, spelled_as_of};
 
 use tree::bytes;
 
 // The highest number for which a string is promised.
 const HIGHEST: usize = 9007199254740991;
 
-// What a text is as a number, with a value of at most the highest; another spelling, or a higher one, is neither.
+// A number by its spelling, with a value of at most the highest.
 #[derive(Clone, Copy)]
 pub enum Spelling {
     Decimal(usize),
     Hexadecimal(usize),
-    Another,
 }
 
-// The value of a digit, of either case; 16 of a byte that is none.
-fn digit(b: usize) -> usize
-    ensures { result ≡ digit_of b }
+// The value of a digit, of either case.
+fn digit(b: u8) -> Option<usize>
+    ensures { unwrap_or result 16 ≡ digit_of b }
 {
-    if b < 48 {
-        return 16;
+    match b {
+        b'0'..=b'9' => Some(usize::from(b - b'0')),
+        b'A'..=b'F' => Some(usize::from(b - b'A' + 10)),
+        b'a'..=b'f' => Some(usize::from(b - b'a' + 10)),
+        _ => None,
     }
-    if b < 58 {
-        return b - 48;
-    }
-    if b < 65 {
-        return 16;
-    }
-    if b < 71 {
-        return b - 55;
-    }
-    if b < 97 {
-        return 16;
-    }
-    if b < 103 {
-        return b - 87;
-    }
-    16
 }
 
 fn base(hexadecimal: bool) -> usize
     ensures { result ≡ base_of hexadecimal }
 {
-    if hexadecimal {
-        return 16;
-    }
-    10
+    if hexadecimal { 16 } else { 10 }
 }
 
-// The value of the digits from a position on; one above the highest if there is a byte that is no digit, or the value is higher.
-fn value(text: &[u8], hexadecimal: bool, from: usize) -> usize
-    ensures { result ≡ value_in (base_of hexadecimal) 0 (drop from text.now) }
+// The value of digits, if each byte is one and the value is not above the highest.
+fn value(digits: &[u8], hexadecimal: bool) -> Option<usize>
+    ensures value { unwrap_or result (suc highest_number) ≡ value_in (base_of hexadecimal) 0 digits.now }
+    ensures low { IfSome result (λ v. v ≤ highest_number) }
 {
     let base = base(hexadecimal);
     let mut v = 0;
-    let mut i = from;
-    while i < text.len() {
-        let d = digit(bytes::peek(text, i));
+    for &b in digits {
+        let d = digit(b)?;
         if base <= d {
-            return HIGHEST + 1;
+            return None;
         }
         v = v * base + d;
         if HIGHEST < v {
-            return HIGHEST + 1;
+            return None;
         }
-        i += 1;
     }
-    v
+    Some(v)
 }
 
-fn decimal(v: usize) -> Spelling
-    ensures { spelling_value result ≡ decimal_in v }
-{
-    if HIGHEST < v {
-        return Spelling::Another;
-    }
-    Spelling::Decimal(v)
-}
-
-fn hexadecimal(v: usize) -> Spelling
-    ensures { spelling_value result ≡ hexadecimal_in v }
-{
-    if HIGHEST < v {
-        return Spelling::Another;
-    }
-    Spelling::Hexadecimal(v)
-}
-
-// What a text is.
-pub(crate) fn spelled(text: &[u8]) -> Spelling
+// What a text is: another spelling, or a higher value, is none.
+pub(crate) fn spelled(text: &[u8]) -> Option<Spelling>
     ensures { spelling_value result ≡ spelled_as_of text.now }
 {
     let n = text.len();
     if n == 0 {
-        return Spelling::Another;
+        return None;
     }
-    if n == 1 {
-        return decimal(value(text, false, 0));
-    }
-    if bytes::peek(text, 0) == 48 {
-        if bytes::peek(text, 1) == 120 {
-            if n == 2 {
-                return Spelling::Another;
-            }
-            return hexadecimal(value(text, true, 2));
+    if 1 < n && bytes::peek(text, 0) == 48 {
+        if 2 < n && bytes::peek(text, 1) == 120 {
+            let hexadecimal = value(&text[2..], true)?;
+            return Some(Spelling::Hexadecimal(hexadecimal));
         }
-        return Spelling::Another;
+        return None;
     }
-    decimal(value(text, false, 0))
+    let decimal = value(text, false)?;
+    Some(Spelling::Decimal(decimal))
 }
 
 // The digits of a value: the bytes of the array from a place on.
@@ -131,8 +91,5 @@ pub fn digits_of(v: usize) -> Digits
         i -= 1;
     }
     bytes[i] = (48 + n) as u8;
-    Digits {
-        bytes: bytes,
-        from: i,
-    }
+    Digits { bytes, from: i }
 }
