@@ -1,18 +1,20 @@
 -- One law for each way out of a function: what it leaves is what the machine's definition says.
 -- Assumes nothing.
 use mathlib.Core.Path.{◌≡◌, refl, sym, ap, ◌∙◌}
-use mathlib.Core.Bool.{Bool, true, false}
+use mathlib.Core.Bool.{cond}
 use mathlib.Core.List.{List, [], ◌∷◌, ◌++◌, append-nil}
-use Prim.Native.Nat.{ℕ, zero, suc, ◌+◌, ◌-◌, ◌*◌, ◌<◌, ◌≤◌, min}
+use Prim.Native.Nat.{ℕ, suc, ◌+◌, ◌-◌, ◌<◌, ◌≤◌}
 use native.Mathlib.Nat.{add-zero}
 use native.Mathlib.Omega.{arith}
-use native.Mathlib.Numerals.{add-one, unary_clauses}
-use lib.Dec.{ltb, leb}
-use lib.ListN.{length, get_or, set, take, drop, length-drop, length-set, get_or-eq_default, drop_of_length-le, take-append-drop}
-use lib.Seq.{set_out, slice, slice-cons, take_all, length-take-le}
+use native.Mathlib.Numerals.{add-one}
+use lib.Dec.{ltb}
+use lib.ListN.{length, get_or, set, take, drop, length-drop, drop_of_length-le, take-append-drop}
+use lib.Seq.{set_out, paste, drop-cons, take_all, length-take-le}
 use borrow.Rule.Slice.PartMut.{put_mid, mid_of, mid_len, set_mid_at}
-use borrow.Author.Tests.{lt-ltb, le-ltb, leb-true}
-use Rattle.sink.specs.Machine.{State, Event, state_of, with_tree, with_list, with_keys_of, with_entries, with_declarators, with_next, with_mark, with_helpers, low, high, part, one_more_of, wide_in, set_wide, put_tree, put_list, put_keys, put_entry, cell_of, set_cell, known, patch_list, patch_work, number_of, settle, listed_at, excluded_at, set_cell_in, with_helper, use_helper, next_mark, count_entry, count_declarator, all_tree, all_list_of, all_keys, step, steps, puts, lists, excludes, closed}
+use Rattle.std.proofs.lemmas.List.Edits.{sets, sets-eq}
+use Rattle.std.proofs.lemmas.Slice.{put_mid-paste}
+use borrow.Author.Tests.{lt-ltb, le-ltb}
+use Rattle.sink.specs.Machine.{State, Event, state_of, with_tree, with_list, with_keys_of, with_entries, with_declarators, with_mark, with_helpers, low, high, part, one_more_of, set_wide, put_tree, put_list, put_keys, put_entry, set_cell, number_of, settle, listed_at, excluded_at, set_cell_in, with_helper, use_helper, next_mark, count_entry, count_declarator, all_tree, all_list_of, all_keys, step, steps, puts, lists, excludes, closed}
 use Rattle.sink.specs.Machine.Event.{put, helper, temporary, new_mark, make, listed, listed_temporary, entry, excluded, excluded_temporary, declarator}
 use Rattle.sink.proofs.Runs.{wide_right}
 use Rattle.sink.specs.declared.Helpers.{Helpers}
@@ -28,96 +30,15 @@ pub more_at : (g n : ℕ) → g ≤ n → g ≡ one_more_of g n
 unfolding one_more_of
 more_at g n h = rw (le-ltb n g h)
 
-pub wide_in_lem : (l : List ℕ) (at a b : ℕ) → a ≡ get_or l at 0 → b ≡ get_or l (at + 1) 0 → a + 256 * b ≡ wide_in l at
-unfolding wide_in
-wide_in_lem l at a b p q = cc
-
-pub wide_out : (l : List ℕ) (at : ℕ) → length l ≤ at → 0 ≡ wide_in l at
-unfolding wide_in
-wide_out l at h =
-    let a : get_or l at 0 ≡ 0 = get_or-eq_default l 0 {n = at} h in
-    let b : get_or l (at + 1) 0 ≡ 0 = get_or-eq_default l 0 {n = at + 1} (omega arith) in
-    omega arith
-
-pub set_wide_in : (l l₁ l₂ : List ℕ) (at n a b : ℕ) → a ≡ low n → l₁ ≡ set l at a → b ≡ high n → l₂ ≡ set l₁ (at + 1) b → l₂ ≡ set_wide l at n
-unfolding set_wide
-set_wide_in l l₁ l₂ at n a b p e q f = cc
-
 pub set_wide_out : (l : List ℕ) (at n : ℕ) → length l ≤ at → l ≡ set_wide l at n
 unfolding set_wide
 set_wide_out l at n h = sym (ap (λ (x : List ℕ). set x (at + 1) (high n)) (set_out l at (low n) h) ∙ set_out l (at + 1) (high n) (omega arith))
 
 -- ---- cells
 
-pub cell_in : (w : List ℕ) (c r : ℕ) → c < 16384 → r ≡ wide_in w (2 * c) → r ≡ cell_of w c
-unfolding cell_of
-cell_in w c r h e = rw (lt-ltb c 16384 h) e
-
-pub cell_out : (w : List ℕ) (c : ℕ) → 16384 ≤ c → 0 ≡ cell_of w c
-unfolding cell_of
-cell_out w c h = rw (le-ltb c 16384 h)
-
-pub set_cell_in_lem : (w w₁ : List ℕ) (c n : ℕ) → c < 16384 → w₁ ≡ set_wide w (2 * c) n → w₁ ≡ set_cell w c n
-unfolding set_cell
-set_cell_in_lem w w₁ c n h e = rw (lt-ltb c 16384 h) e
-
-pub set_cell_out : (w : List ℕ) (c n : ℕ) → 16384 ≤ c → w ≡ set_cell w c n
-unfolding set_cell
-set_cell_out w c n h = rw (le-ltb c 16384 h)
-
 pub made : (t l w w₁ : List ℕ) (k : Sink) (c : ℕ) → w₁ ≡ set_cell w c 0 → state_of t l w₁ k ≡ step (state_of t l w k) (make c)
 unfolding step set_cell_in
 made t l w w₁ k c e = ap (λ (x : List ℕ). state_of t l x k) e
-
-pub known_above : (v : ℕ) → 0 < v → ltb v 16384 ≡ known v
-unfolding known
-known_above v h = rw (lt-ltb 0 v h)
-
-pub known_zero : (v : ℕ) → v ≤ 0 → false ≡ known v
-unfolding known
-known_zero v h = rw (le-ltb 0 v h)
-
-pub patch_none : (v n : ℕ) (l w : List ℕ) → v < 16384 → (l ≡ patch_list v n l) × (w ≡ patch_work v n w)
-unfolding patch_list patch_work
-patch_none v n l w h = (rw (lt-ltb v 16384 h), rw (lt-ltb v 32768 (omega arith)))
-
-pub patch_list_lem : (v n : ℕ) (l l₁ w : List ℕ) → 16384 ≤ v → v < 32768 → l₁ ≡ set_wide l (v - 16384) n → (l₁ ≡ patch_list v n l) × (w ≡ patch_work v n w)
-unfolding patch_list patch_work
-patch_list_lem v n l l₁ w h g e = (rw (le-ltb v 16384 h, lt-ltb v 32768 g) e, rw (lt-ltb v 32768 g))
-
-pub patch_work_lem : (v n : ℕ) (l w w₁ : List ℕ) → 16384 ≤ v → 32768 ≤ v → w₁ ≡ set_wide w v n → (l ≡ patch_list v n l) × (w₁ ≡ patch_work v n w)
-unfolding patch_list patch_work
-patch_work_lem v n l w w₁ h g e = (rw (le-ltb v 16384 h, le-ltb v 32768 g), rw (le-ltb v 32768 g) e)
-
-pub number_known : (s : State) (c v : ℕ) (b : Bool) → v ≡ cell_of s.work c → b ≡ known v → b ≡ true → v ≡ number_of s c
-unfolding number_of
-number_known s c v b e f t =
-    let g : known (cell_of s.work c) ≡ true = ap known (sym e) ∙ sym f ∙ t in
-    rw g e
-
-pub number_next : (s : State) (c v : ℕ) (b : Bool) → v ≡ cell_of s.work c → b ≡ known v → b ≡ false → s.sink.next ≡ number_of s c
-unfolding number_of
-number_next s c v b e f t =
-    let g : known (cell_of s.work c) ≡ false = ap known (sym e) ∙ sym f ∙ t in
-    rw g
-
-pub settled_known : (s : State) (c v : ℕ) (b : Bool) → v ≡ cell_of s.work c → b ≡ known v → b ≡ true → s ≡ settle s c
-unfolding settle
-settled_known s c v b e f t =
-    let g : known (cell_of s.work c) ≡ true = ap known (sym e) ∙ sym f ∙ t in
-    rw g
-
-pub settled_new : (s : State) (c v n : ℕ) (b : Bool) (l₁ w₁ w₂ : List ℕ) → v ≡ cell_of s.work c → b ≡ known v → b ≡ false
-    → (l₁ ≡ patch_list v s.sink.next s.list) × (w₁ ≡ patch_work v s.sink.next s.work) → w₂ ≡ set_cell w₁ c s.sink.next → n ≡ one_more_of 16383 s.sink.next
-    → state_of s.out l₁ w₂ (with_next s.sink n) ≡ settle s c
-unfolding settle
-settled_new s c v n b l₁ w₁ w₂ e f t p q r =
-    let g : known (cell_of s.work c) ≡ false = ap known (sym e) ∙ sym f ∙ t in
-    let p₁ : l₁ ≡ patch_list v s.sink.next s.list = p.0 in
-    let p₂ : w₁ ≡ patch_work v s.sink.next s.work = p.1 in
-    let x : l₁ ≡ patch_list (cell_of s.work c) s.sink.next s.list = cc in
-    let y : w₂ ≡ set_cell (patch_work (cell_of s.work c) s.sink.next s.work) c s.sink.next = cc in
-    rw g (λ j. state_of s.out ((x) j) ((y) j) (with_next s.sink ((r) j)))
 
 -- ---- a byte
 
@@ -295,100 +216,71 @@ pub declarator_is : (s s₁ : State) (k : ℕ) → k ≡ one_more_of 65535 s.sin
 unfolding step count_declarator
 declarator_is s s₁ k e p = p ∙ all_excludes _ _ ∙ ap (λ (v : ℕ). all_keys (state_of s.out s.list s.work (with_declarators s.sink v)) (5 ∷ 3 ∷ [])) e
 
-pub listed_at_in : (at : ℕ) → at < 16381 → 16384 + (at + 2) ≡ listed_at at
+-- what a cell says of a temporary that is written in the list or among the excluded declarators
+pub listed_at_is : (at v : ℕ) → v ≡ cond (ltb at 16381) (16384 + (at + 2)) 0 → v ≡ listed_at at
 unfolding listed_at
-listed_at_in at h = rw (lt-ltb at 16381 h)
+listed_at_is at v e = e
 
-pub listed_at_out : (at : ℕ) → 16381 ≤ at → 0 ≡ listed_at at
-unfolding listed_at
-listed_at_out at h = rw (le-ltb at 16381 h)
-
-pub excluded_at_in : (at : ℕ) → at < 16381 → 32768 + (at + 2) ≡ excluded_at at
+pub excluded_at_is : (at v : ℕ) → v ≡ cond (ltb at 16381) (32768 + (at + 2)) 0 → v ≡ excluded_at at
 unfolding excluded_at
-excluded_at_in at h = rw (lt-ltb at 16381 h)
+excluded_at_is at v e = e
 
-pub excluded_at_out : (at : ℕ) → 16381 ≤ at → 0 ≡ excluded_at at
-unfolding excluded_at
-excluded_at_out at h = rw (le-ltb at 16381 h)
+-- ---- a run of bytes that is copied, one by one: f has an event e for each
 
--- ---- a run of bytes that is copied
+module _ (f : List ℕ → List Event) (e : ℕ → Event) (none : f [] ≡ []) (more : (b : ℕ) (bs : List ℕ) → f (b ∷ bs) ≡ e b ∷ f bs) where
+  pub run_end : (bs : List ℕ) (i : ℕ) (s s₀ : State) → length bs ≤ i → steps s (f (drop i bs)) ≡ s₀ → s ≡ s₀
+  unfolding steps
+  run_end bs i s s₀ h p = sym (ap (λ (x : List ℕ). steps s (f x)) (drop_of_length-le bs {i = i} h) ∙ ap (steps s) none) ∙ p
 
-slice_end : (i n : ℕ) (l : List ℕ) → n ≤ i → slice i n l ≡ []
-slice_end i zero l h = drop_of_length-le [] {i = i} (omega arith)
-slice_end zero (suc n) l h = absurd (omega arith)
-slice_end (suc i) (suc n) [] h = refl
-slice_end (suc i) (suc n) (x ∷ l) h = slice_end i n l (omega arith)
+  pub run_more : (bs : List ℕ) (i : ℕ) (s s₁ s₀ : State) → i < length bs → s₁ ≡ step s (e (get_or bs i 0)) → steps s (f (drop i bs)) ≡ s₀ → steps s₁ (f (drop (i + 1) bs)) ≡ s₀
+  unfolding steps
+  run_more bs i s s₁ s₀ h q p =
+      let d : drop i bs ≡ get_or bs i 0 ∷ drop (i + 1) bs = drop-cons bs i 0 h ∙ ap (λ (j : ℕ). get_or bs i 0 ∷ drop j bs) (sym (add-one i)) in
+      ap (λ (z : State). steps z (f (drop (i + 1) bs))) q ∙ sym (ap (λ (x : List ℕ). steps s (f x)) d ∙ ap (steps s) (more (get_or bs i 0) (drop (i + 1) bs))) ∙ p
 
-take_least : (n : ℕ) (l : List ℕ) → take (min n (length l)) l ≡ take n l
-take_least zero l = simp unary_clauses
-take_least (suc n) [] = simp unary_clauses
-take_least (suc n) (x ∷ l) = simp unary_clauses (ap (λ (r : List ℕ). x ∷ r) (take_least n l))
+pub puts_more : (b : ℕ) (bs : List ℕ) → puts (b ∷ bs) ≡ put b ∷ puts bs
+unfolding puts
+puts_more b bs = refl
 
-pub part_end : (i n : ℕ) (l : List ℕ) → n ≤ i → part i n l ≡ []
-unfolding part
-part_end i n l h = slice_end i n l h
+pub lists_more : (b : ℕ) (bs : List ℕ) → lists (b ∷ bs) ≡ listed b ∷ lists bs
+unfolding lists
+lists_more b bs = refl
 
--- the end past the last byte is the end at it
-pub part_least : (i n : ℕ) (l : List ℕ) → part i (min n (length l)) l ≡ part i n l
-unfolding part
-part_least i n l = ap (drop i) (take_least n l)
+pub excludes_more : (b : ℕ) (bs : List ℕ) → excludes (b ∷ bs) ≡ excluded b ∷ excludes bs
+unfolding excludes
+excludes_more b bs = refl
 
-pub part_next : (i n : ℕ) (l : List ℕ) → i < n → n ≤ length l → part i n l ≡ get_or l i 0 ∷ part (i + 1) n l
-unfolding part
-part_next i n l h k = slice-cons i n l 0 h k ∙ ap (λ (j : ℕ). get_or l i 0 ∷ slice j n l) (sym (add-one i))
+pub puts_none : puts [] ≡ []
+unfolding puts
+puts_none = refl
 
-module _ (l : List ℕ) (s₀ : State) (i n : ℕ) (s : State) where
-  pub copy_end : n ≤ i → steps s (puts (part i n l)) ≡ s₀ → s ≡ s₀
-  unfolding steps puts
-  copy_end h e = ap (λ (b : List ℕ). steps s (puts b)) (sym (part_end i n l h)) ∙ e
+pub lists_none : lists [] ≡ []
+unfolding lists
+lists_none = refl
 
-  pub copy_more : (s₁ : State) → i < n → n ≤ length l → s₁ ≡ step s (put (get_or l i 0)) → steps s (puts (part i n l)) ≡ s₀ → steps s₁ (puts (part (i + 1) n l)) ≡ s₀
-  unfolding steps puts
-  copy_more s₁ h k p e = ap (λ (z : State). steps z (puts (part (i + 1) n l))) p ∙ ap (λ (b : List ℕ). steps s (puts b)) (sym (part_next i n l h k)) ∙ e
+pub excludes_none : excludes [] ≡ []
+unfolding excludes
+excludes_none = refl
 
-  pub listed_copy_end : n ≤ i → steps s (lists (part i n l)) ≡ s₀ → s ≡ s₀
-  unfolding steps lists
-  listed_copy_end h e = ap (λ (b : List ℕ). steps s (lists b)) (sym (part_end i n l h)) ∙ e
+-- ---- bytes that have room, in one block
 
-  pub listed_copy_more : (s₁ : State) → i < n → n ≤ length l → s₁ ≡ step s (listed (get_or l i 0)) → steps s (lists (part i n l)) ≡ s₀ → steps s₁ (lists (part (i + 1) n l)) ≡ s₀
-  unfolding steps lists
-  listed_copy_more s₁ h k p e = ap (λ (z : State). steps z (lists (part (i + 1) n l))) p ∙ ap (λ (b : List ℕ). steps s (lists b)) (sym (part_next i n l h k)) ∙ e
+block_run : (bs out l w : List ℕ) (k : Sink) (at : ℕ) → at + length bs ≤ 32768 → steps (state_of out l w (with_tree k at)) (puts bs) ≡ state_of (sets out at bs) l w (with_tree k (at + length bs))
+unfolding steps puts
+block_run [] out l w k at h = ap (λ (n : ℕ). state_of out l w (with_tree k n)) (sym (add-zero at))
+block_run (b ∷ bs) out l w k at h =
+    let p : at + 1 ≡ suc at = add-one at in
+    let q : at + 1 + length bs ≡ at + suc (length bs) = omega arith in
+    ap (λ (z : State). steps z (puts bs)) (sym (put_in (state_of out l w (with_tree k at)) (set out at b) b (omega arith) refl))
+    ∙ block_run bs (set out at b) l w k (at + 1) (omega arith)
+    ∙ (λ j. state_of (sets (set out at b) ((p) j) bs) l w (with_tree k ((q) j)))
 
-  pub excluded_copy_end : n ≤ i → steps s (excludes (part i n l)) ≡ s₀ → s ≡ s₀
-  unfolding steps excludes
-  excluded_copy_end h e = ap (λ (b : List ℕ). steps s (excludes b)) (sym (part_end i n l h)) ∙ e
-
-  pub excluded_copy_more : (s₁ : State) → i < n → n ≤ length l → s₁ ≡ step s (excluded (get_or l i 0)) → steps s (excludes (part i n l)) ≡ s₀ → steps s₁ (excludes (part (i + 1) n l)) ≡ s₀
-  unfolding steps excludes
-  excluded_copy_more s₁ h k p e = ap (λ (z : State). steps z (excludes (part (i + 1) n l))) p ∙ ap (λ (b : List ℕ). steps s (excludes b)) (sym (part_next i n l h k)) ∙ e
-
--- a byte of a block that has room
-pub copied_on : (out₀ out from : List ℕ) (at p first stop i : ℕ) → stop ≤ length from → i < stop → length out ≡ length out₀ → p + (stop - i) ≤ length out → p + (stop - i) ≤ 32768
-    → ((k : Sink) (l w : List ℕ) → steps (state_of out l w (with_tree k p)) (puts (part i stop from)) ≡ steps (state_of out₀ l w (with_tree k at)) (puts (part first stop from)))
-    → (length (set out p (get_or from i 0)) ≡ length out₀) × (p + 1 + (stop - (i + 1)) ≤ length (set out p (get_or from i 0))) × (p + 1 + (stop - (i + 1)) ≤ 32768)
-    × ((k : Sink) (l w : List ℕ) → steps (state_of (set out p (get_or from i 0)) l w (with_tree k (p + 1))) (puts (part (i + 1) stop from)) ≡ steps (state_of out₀ l w (with_tree k at)) (puts (part first stop from)))
-copied_on out₀ out from at p first stop i h g e a b r =
-    let n : length (set out p (get_or from i 0)) ≡ length out = length-set out p (get_or from i 0) in
-    (n ∙ e, omega arith, omega arith, λ k l w. copy_more from _ i stop _ _ g h (put_in (state_of out l w (with_tree k p)) _ _ (omega arith) refl) (r k l w))
-
--- room for the bytes from `first` up to `stop` behind `at`
-pub room_left : (at first stop slice most : ℕ) → most ≡ min slice 32768 → at ≤ most → first ≤ stop → leb (stop - first) (most - at) ≡ true → (at + (stop - first) ≤ slice) × (at + (stop - first) ≤ 32768)
-room_left at first stop slice most e h g t = let w = leb-true (stop - first) (most - at) t in (omega arith, omega arith)
-
-module _ (l : List ℕ) (s : State) (i n e : ℕ) (q : n ≡ min e (length l)) where
-  least_end : part i n l ≡ part i e l
-  least_end = ap (λ (m : ℕ). part i m l) q ∙ part_least i e l
-
-  pub copy_start : steps s (puts (part i n l)) ≡ steps s (puts (part i e l))
-  copy_start = ap (λ (b : List ℕ). steps s (puts b)) least_end
-
-  pub listed_copy_start : steps s (lists (part i n l)) ≡ steps s (lists (part i e l))
-  listed_copy_start = ap (λ (b : List ℕ). steps s (lists b)) least_end
-
-  pub excluded_copy_start : steps s (excludes (part i n l)) ≡ steps s (excludes (part i e l))
-  excluded_copy_start = ap (λ (b : List ℕ). steps s (excludes b)) least_end
-
--- ---- clearing
+pub block_copied : (bs out new : List ℕ) (at : ℕ) → new ≡ bs → at + length bs ≤ length out → at + length bs ≤ 32768
+    → (k : Sink) (l w : List ℕ) → state_of (put_mid at (at + length bs - at) out new) l w (with_tree k (at + length bs)) ≡ steps (state_of out l w (with_tree k at)) (puts bs)
+block_copied bs out new at e h g k l w =
+    let p : put_mid at (at + length bs - at) out new ≡ paste out at bs (length bs) = put_mid-paste at (at + length bs - at) out new bs (length bs) e (omega arith) refl in
+    let q : take (length bs) bs ≡ bs = take_all (length bs) bs (omega arith) in
+    let r : paste out at bs (length bs) ≡ sets out at bs = ap (λ (z : List ℕ). take at out ++ z ++ drop (at + length bs) out) q ∙ sym (sets-eq bs out at h) in
+    ap (λ (z : List ℕ). state_of z l w (with_tree k (at + length bs))) (p ∙ r) ∙ sym (block_run bs out l w k at g)
 
 -- ---- the end
 

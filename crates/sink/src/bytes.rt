@@ -1,23 +1,31 @@
 // Bytes and 16-bit numbers of a slice, total: what is past the end reads as 0, and is not written.
-ghost use Rattle.std.specs.Prelude.{◌≡◌, min, length, get_or, set, replicate};
-ghost use Rattle.sink.specs.Machine.{wide_in, set_wide, one_more_of, low, high};
+ghost use Rattle.std.specs.Prelude.{◌≡◌, get_or, set};
+ghost use Rattle.sink.specs.Machine.{wide_in, set_wide, one_more_of, low, high, part};
 
 fn byte(s: &[u8], at: usize) -> u8
     ensures { result ≡ get_or s.now at 0 }
 {
-    if at < s.len() {
-        return s[at];
-    }
-    0
+    s.get(at).copied().unwrap_or(0)
 }
 
+#[tactic(auto, unfolding(crate::specs::Machine::wide_in))]
 pub(crate) fn wide(s: &[u8], at: usize) -> usize
     ensures { result ≡ wide_in s.now at }
 {
     if at < s.len() {
-        return byte(s, at) as usize + 256 * (byte(s, at + 1) as usize);
+        usize::from(byte(s, at)) + 256 * usize::from(byte(s, at + 1))
+    } else {
+        0
     }
-    0
+}
+
+// The bytes from a position up to another, as many as there are.
+#[tactic(auto, unfolding(crate::specs::Machine::part))]
+pub(crate) fn part(s: &[u8], start: usize, end: usize) -> &[u8]
+    ensures { result.now ≡ part start end s.now }
+{
+    let stop = end.min(s.len());
+    if start < stop { &s[start..stop] } else { &[] }
 }
 
 pub(crate) fn put_byte(s: &mut [u8], at: usize, b: u8)
@@ -28,6 +36,7 @@ pub(crate) fn put_byte(s: &mut [u8], at: usize, b: u8)
     }
 }
 
+#[tactic(auto, unfolding(crate::specs::Machine::set_wide))]
 pub(crate) fn put_wide(s: &mut [u8], at: usize, n: usize)
     ensures { s.new ≡ set_wide s.old at n }
 {
@@ -37,12 +46,14 @@ pub(crate) fn put_wide(s: &mut [u8], at: usize, n: usize)
     }
 }
 
+#[tactic(auto, unfolding(crate::specs::Machine::low))]
 pub fn low(n: usize) -> u8
     ensures { result ≡ low n }
 {
     (n % 256) as u8
 }
 
+#[tactic(auto, unfolding(crate::specs::Machine::high))]
 pub(crate) fn high(n: usize) -> u8
     ensures { result ≡ high n }
 {
@@ -50,20 +61,9 @@ pub(crate) fn high(n: usize) -> u8
 }
 
 // One more, up to a greatest number.
+#[tactic(auto, unfolding(crate::specs::Machine::one_more_of))]
 pub(crate) fn one_more(n: usize, greatest: usize) -> usize
     ensures { result ≡ one_more_of greatest n }
 {
-    if n < greatest {
-        return n + 1;
-    }
-    greatest
-}
-
-pub fn least(a: usize, b: usize) -> usize
-    ensures { result ≡ min a b }
-{
-    if a < b {
-        return a;
-    }
-    b
+    n.saturating_add(1).min(greatest)
 }

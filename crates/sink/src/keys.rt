@@ -1,19 +1,9 @@
 // Excluded declarators: gathered in the work slice, and appended to the list at the end.
 ghost use Rattle.std.specs.Prelude.{◌≡◌, ℕ, List, [], ◌∷◌};
-ghost use Rattle.sink.specs.Machine.{state_of, step, steps, excludes, low, high, part, excluded_at};
+ghost use Rattle.sink.specs.Machine.{state_of, step, steps, excludes, low, high, part};
 ghost use Rattle.sink.specs.Machine.Event.{excluded, excluded_temporary, declarator};
 
 use crate::{Sink, bytes, cells};
-
-// What a cell says of a temporary whose node is written from a position on.
-fn excluded_at(at: usize) -> usize
-    ensures { result ≡ excluded_at at }
-{
-    if at < 16381 {
-        return 32768 + (at + 2);
-    }
-    0
-}
 
 impl Sink {
     pub fn excluded(mut self, work: &mut [u8], b: u8) -> Sink
@@ -49,25 +39,20 @@ impl Sink {
     }
 
     // The bytes of `from` from a position up to another.
-    pub fn excluded_copy(self, work: &mut [u8], from: &[u8], start: usize, end: usize) -> Sink
+    pub fn excluded_copy(mut self, work: &mut [u8], from: &[u8], start: usize, end: usize) -> Sink
         ensures { (t l : List ℕ) → state_of t l work.new result ≡ steps (state_of t l work.old self) (excludes (part start end from.now)) }
     {
-        let mut k = self;
-        let mut i = start;
-        let stop = bytes::least(end, from.len());
-        while i < stop {
-            k = k.excluded(work, from[i]);
-            i += 1;
+        for &b in bytes::part(from, start, end) {
+            self = self.excluded(work, b);
         }
-        k
+        self
     }
 
     // The head of a declarator that has both its fields.
     pub fn declarator(mut self, work: &mut [u8]) -> Sink
         ensures { (t l : List ℕ) → state_of t l work.new result ≡ step (state_of t l work.old self) declarator }
     {
-        let n = self.declarators;
-        self.declarators = bytes::one_more(n, 65535);
+        self.declarators = bytes::one_more(self.declarators, 65535);
         self.excluded2(work, 5, 3)
     }
 
@@ -75,7 +60,7 @@ impl Sink {
     pub fn excluded_temporary(self, work: &mut [u8], c: usize, stem: u8) -> Sink
         ensures { (t l : List ℕ) → state_of t l work.new result ≡ step (state_of t l work.old self) (excluded_temporary c stem) }
     {
-        cells::set_cell(work, c, excluded_at(self.keys));
+        cells::set_cell(work, c, cells::number_at(32768, self.keys));
         self.excluded4(work, 20, 3, 0, 0).excluded(work, stem)
     }
 }

@@ -1,6 +1,6 @@
 // What is written to the list.
 ghost use Rattle.std.specs.Prelude.{◌≡◌, ℕ, ◌+◌, List, [], ◌∷◌, set};
-ghost use Rattle.sink.specs.Machine.{state_of, step, steps, lists, low, high, part, set_wide, listed_at};
+ghost use Rattle.sink.specs.Machine.{state_of, step, steps, lists, low, high, part, set_wide};
 ghost use Rattle.sink.specs.Machine.Event.{listed, listed_temporary, entry};
 
 use crate::{Sink, bytes, cells};
@@ -38,16 +38,6 @@ fn write_entry_at(list: &mut [u8], filled: usize, mark: usize, count: usize)
     }
 }
 
-// What a cell says of a temporary whose node is written from a position on.
-fn listed_at(at: usize) -> usize
-    ensures { result ≡ listed_at at }
-{
-    if at < 16381 {
-        return 16384 + (at + 2);
-    }
-    0
-}
-
 impl Sink {
     fn listed(mut self, list: &mut [u8], b: u8) -> Sink
         ensures { (t w : List ℕ) → state_of t list.new w result ≡ step (state_of t list.old w self) (listed b) }
@@ -82,25 +72,20 @@ impl Sink {
     }
 
     // The bytes of `from` from a position up to another.
-    pub fn listed_copy(self, list: &mut [u8], from: &[u8], start: usize, end: usize) -> Sink
+    pub fn listed_copy(mut self, list: &mut [u8], from: &[u8], start: usize, end: usize) -> Sink
         ensures { (t w : List ℕ) → state_of t list.new w result ≡ steps (state_of t list.old w self) (lists (part start end from.now)) }
     {
-        let mut k = self;
-        let mut i = start;
-        let stop = bytes::least(end, from.len());
-        while i < stop {
-            k = k.listed(list, from[i]);
-            i += 1;
+        for &b in bytes::part(from, start, end) {
+            self = self.listed(list, b);
         }
-        k
+        self
     }
 
     // The head of an entry: the mark of a statement, and how many declarators follow.
     pub fn entry(mut self, list: &mut [u8], mark: usize, count: usize) -> Sink
         ensures { (t w : List ℕ) → state_of t list.new w result ≡ step (state_of t list.old w self) (entry mark count) }
     {
-        let n = self.entries;
-        self.entries = bytes::one_more(n, 65535);
+        self.entries = bytes::one_more(self.entries, 65535);
         let filled = self.list;
         if filled < 16381 {
             write_entry_at(list, filled, mark, count);
@@ -115,7 +100,7 @@ impl Sink {
     pub fn listed_temporary(self, list: &mut [u8], work: &mut [u8], c: usize, stem: u8) -> Sink
         ensures { (t : List ℕ) → state_of t list.new work.new result ≡ step (state_of t list.old work.old self) (listed_temporary c stem) }
     {
-        cells::set_cell(work, c, listed_at(self.list));
+        cells::set_cell(work, c, cells::number_at(16384, self.list));
         self.listed4(list, 20, 3, 0, 0).listed(list, stem)
     }
 }

@@ -1,5 +1,5 @@
 // What is written to the tree.
-ghost use Rattle.std.specs.Prelude.{◌≡◌, ℕ, ◌+◌, ◌-◌, ◌≤◌, ltb, true, List, [], ◌∷◌, length};
+ghost use Rattle.std.specs.Prelude.{◌≡◌, ℕ, ◌+◌, ◌≤◌, ltb, true, List, [], ◌∷◌, length};
 ghost use Rattle.sink.specs.declared.Sink.{Sink};
 ghost use Rattle.sink.specs.Machine.{helper_number, tree_limit, with_tree, state_of, step, steps, puts, low, high, part};
 ghost use Rattle.sink.specs.Machine.Event.{put, helper, temporary, new_mark};
@@ -18,47 +18,22 @@ fn put_at(out: &mut [u8], at: usize, b: u8) -> usize
     32769
 }
 
-// Whether the bytes from a position up to another have room behind `at`, within the limit and the slice.
-fn has_room(at: usize, start: usize, stop: usize, slice: usize) -> bool
-    ensures { result ≡ true → (at + (stop - start) ≤ slice) × (at + (stop - start) ≤ tree_limit) }
+// Whether so many bytes have room behind `at`, within the limit and the slice.
+fn has_room(at: usize, count: usize, slice: usize) -> bool
+    ensures { result ≡ true → (at + count ≤ slice) × (at + count ≤ tree_limit) }
 {
-    let most = bytes::least(slice, 32768);
-    if most < at {
-        return false;
-    }
-    if stop < start {
-        return true;
-    }
-    stop - start <= most - at
+    let most = slice.min(32768);
+    at <= most && count <= most - at
 }
 
 // Bytes that have room, in one block.
-fn copy_whole(out: &mut [u8], at: usize, from: &[u8], start: usize, stop: usize) -> usize
-    requires { (stop ≤ length from.now) × (at + (stop - start) ≤ length out.old) × (at + (stop - start) ≤ tree_limit) }
-    ensures { (k : Sink) (l w : List ℕ) → state_of out.new l w (with_tree k result) ≡ steps (state_of out.old l w (with_tree k at)) (puts (part start stop from.now)) }
+fn copy_whole(out: &mut [u8], at: usize, bytes: &[u8]) -> usize
+    requires { (at + length bytes.now ≤ length out.old) × (at + length bytes.now ≤ tree_limit) }
+    ensures { (k : Sink) (l w : List ℕ) → state_of out.new l w (with_tree k result) ≡ steps (state_of out.old l w (with_tree k at)) (puts bytes.now) }
 {
-    let mut p = at;
-    let mut i = start;
-    while i < stop {
-        out[p] = from[i];
-        p += 1;
-        i += 1;
-    }
-    p
-}
-
-// Bytes one by one, as far as they go.
-fn copy_some(out: &mut [u8], at: usize, from: &[u8], start: usize, stop: usize) -> usize
-    requires { stop ≤ length from.now }
-    ensures { (k : Sink) (l w : List ℕ) → state_of out.new l w (with_tree k result) ≡ steps (state_of out.old l w (with_tree k at)) (puts (part start stop from.now)) }
-{
-    let mut p = at;
-    let mut i = start;
-    while i < stop {
-        p = put_at(out, p, from[i]);
-        i += 1;
-    }
-    p
+    let end = at + bytes.len();
+    out[at..end].copy_from_slice(bytes);
+    end
 }
 
 impl Sink {
@@ -99,13 +74,14 @@ impl Sink {
     pub fn copy(mut self, out: &mut [u8], from: &[u8], start: usize, end: usize) -> Sink
         ensures { (l w : List ℕ) → state_of out.new l w result ≡ steps (state_of out.old l w self) (puts (part start end from.now)) }
     {
-        let stop = bytes::least(end, from.len());
-        let at = self.tree;
-        if has_room(at, start, stop, out.len()) {
-            self.tree = copy_whole(out, at, from, start, stop);
-            return self;
+        let bytes = bytes::part(from, start, end);
+        if has_room(self.tree, bytes.len(), out.len()) {
+            self.tree = copy_whole(out, self.tree, bytes);
+        } else {
+            for &b in bytes {
+                self = self.put(out, b);
+            }
         }
-        self.tree = copy_some(out, at, from, start, stop);
         self
     }
 

@@ -104,15 +104,15 @@ impl Walk {
     pub fn refuse(self, out: &mut [u8], n: u8) -> Walk
         ensures { ((l w : List ℕ) → Runs (going_of out.old l w self) (going_of out.new l w result) (refuses n ∷ puts (0 ∷ 0 ∷ []))) × (result.at ≡ self.at) }
     {
-        let refusal = if self.refusal == 0 {
-            usize::from(n)
+        let sink = self.sink.put2(out, 0, 0);
+        if self.refusal == 0 {
+            Walk {
+                sink,
+                refusal: usize::from(n),
+                ..self
+            }
         } else {
-            self.refusal
-        };
-        Walk {
-            sink: self.sink.put2(out, 0, 0),
-            refusal,
-            ..self
+            Walk { sink, ..self }
         }
     }
 
@@ -299,7 +299,8 @@ impl Walk {
         ensures { ((o l : List ℕ) → Runs (going_of o l work.old self) (going_of o l work.new result) (does declarator ∷ does (excluded_temporary c 2) ∷ excludes (32 ∷ 1 ∷ wide_bytes (n % 65536)))) × (result.at ≡ self.at) }
     {
         Walk {
-            sink: self.sink
+            sink: self
+                .sink
                 .declarator(work)
                 .excluded_temporary(work, c, stems::EXCLUDED)
                 .excluded2(work, written::ARRAY, written::FIRST)
@@ -313,7 +314,8 @@ impl Walk {
     {
         let end = tree::skip::step(t, from, n);
         Walk {
-            sink: self.sink
+            sink: self
+                .sink
                 .excluded4(
                     work,
                     written::LITERAL,

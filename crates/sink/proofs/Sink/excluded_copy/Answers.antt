@@ -1,16 +1,14 @@
-use mathlib.Core.Path.{refl, ◌∙◌}
+use Rattle.std.proofs.Common.{refl}
+use Rattle.sink.specs.Machine.{excludes}
+use Rattle.sink.specs.Machine.Event.{excluded}
 use Rattle.sink.proofs.WaysOut as law
-use native.Mathlib.Omega.{arith}
 use Rattle.sink.proofs.Sink.excluded_copy.Goals as goal
 
-pub loop-i-init : goal.loop-i-init
-loop-i-init c = (refl, λ t l. law.excluded_copy_start c.args.from.now _ c.args.start _ _ c.least-stop.ensures)
+pub loop-b-init : goal.loop-b-init
+loop-b-init c = λ t x. refl
 
-pub bounds-from-i : goal.bounds-from-i
-bounds-from-i c = omega (arith, c.least-stop.ensures)
-
-pub loop-i-preserved : goal.loop-i-preserved
-loop-i-preserved c = (c.excluded-k.auto.work ∙ c.loop-i.invariant.0, λ t l. law.excluded_copy_more _ _ _ _ _ _ c.loop-i-test.true (omega (arith, c.least-stop.ensures)) (c.excluded-k.ensures t l) (c.loop-i.invariant.1 t l))
+pub loop-b-preserved : goal.loop-b-preserved
+loop-b-preserved c = λ t x. law.run_more excludes excluded law.excludes_none law.excludes_more _ _ _ _ _ c.loop-b-test.true (c.excluded-self.ensures t x) (c.loop-b.invariant t x)
 
 pub returns : goal.returns
-returns c = λ t l. law.excluded_copy_end _ _ _ _ _ c.loop-i-test.false (c.loop-i.invariant.1 t l)
+returns c = λ t x. rw (← c.part-b-items.ensures) (law.run_end excludes excluded law.excludes_none law.excludes_more _ _ _ _ c.loop-b-test.false (c.loop-b.invariant t x))

@@ -1,16 +1,14 @@
-use mathlib.Core.Path.{refl, ◌∙◌}
+use Rattle.std.proofs.Common.{refl}
+use Rattle.sink.specs.Machine.{lists}
+use Rattle.sink.specs.Machine.Event.{listed}
 use Rattle.sink.proofs.WaysOut as law
-use native.Mathlib.Omega.{arith}
 use Rattle.sink.proofs.Sink.listed_copy.Goals as goal
 
-pub loop-i-init : goal.loop-i-init
-loop-i-init c = (refl, λ t w. law.listed_copy_start c.args.from.now _ c.args.start _ _ c.least-stop.ensures)
+pub loop-b-init : goal.loop-b-init
+loop-b-init c = λ t w. refl
 
-pub bounds-from-i : goal.bounds-from-i
-bounds-from-i c = omega (arith, c.least-stop.ensures)
-
-pub loop-i-preserved : goal.loop-i-preserved
-loop-i-preserved c = (c.listed-k.auto.list ∙ c.loop-i.invariant.0, λ t w. law.listed_copy_more _ _ _ _ _ _ c.loop-i-test.true (omega (arith, c.least-stop.ensures)) (c.listed-k.ensures t w) (c.loop-i.invariant.1 t w))
+pub loop-b-preserved : goal.loop-b-preserved
+loop-b-preserved c = λ t w. law.run_more lists listed law.lists_none law.lists_more _ _ _ _ _ c.loop-b-test.true (c.listed-self.ensures t w) (c.loop-b.invariant t w)
 
 pub returns : goal.returns
-returns c = λ t w. law.listed_copy_end _ _ _ _ _ c.loop-i-test.false (c.loop-i.invariant.1 t w)
+returns c = λ t w. rw (← c.part-b-items.ensures) (law.run_end lists listed law.lists_none law.lists_more _ _ _ _ c.loop-b-test.false (c.loop-b.invariant t w))
