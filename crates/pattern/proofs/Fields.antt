@@ -1,7 +1,7 @@
 -- Fields of nodes as positions, case by case: what each function answers is the definition, where its callees answer so.
 -- Assumes nothing.
 use mathlib.Core.Path.{◌≡◌, refl, sym, ap, ◌∙◌}
-use mathlib.Core.Bool.{Bool, true, false}
+use mathlib.Core.Bool.{Bool, true, false, not}
 use mathlib.Core.List.{List, [], ◌∷◌}
 use mathlib.Core.Option.{Option, some}
 use Prim.Native.Nat.{ℕ, zero, suc, ◌+◌, ◌-◌, ◌/◌, ◌%◌, ◌<◌, ◌≤◌}
@@ -24,7 +24,8 @@ use Rattle.lowering.specs.Parts.{stands_in, stands}
 use Rattle.pattern.specs.declared.parts.Part.{Part}
 use Rattle.pattern.specs.declared.parts.Part.TheVariants.{One}
 use Rattle.pattern.specs.declared.parts.Place.{Place}
-use Rattle.pattern.specs.Parts.{Content, part_values, sort_at, text_of, part_of, part_in, part_at, item_place, place_of, run_of}
+use Rattle.pattern.specs.declared.parts.Run.{Run}
+use Rattle.pattern.specs.Parts.{Content, field_values, sort_at, text_of, part_of, part_in, part_at, item_place, place_of, run_of}
 
 -- ---- the code of a field in a row
 
@@ -35,13 +36,13 @@ code_end row zero h = elim (dec_lt 0 row) [
 ]
 code_end row (suc n) h = absurd (omega arith)
 
-pub code_more : (row n : ℕ) → 0 < n → sort_at (fields_in_of (row / 1024)) (n - 1) ≡ sort_at (fields_in_of row) n
-code_more row zero h = absurd (omega arith)
-code_more row (suc n) h =
-    let s : suc n - 1 ≡ n = omega arith in
+-- n fields on, i of them passed
+pub code_more : (row n i : ℕ) → i < n → sort_at (fields_in_of (row / 1024)) (n - (i + 1)) ≡ sort_at (fields_in_of row) (n - i)
+code_more row n i h =
+    let s : n - i ≡ suc (n - (i + 1)) = omega arith in
     elim (dec_lt 0 row) [
-      | yes g ↦ rw (row_first row g, s)
-      | no g ↦ rw (row_done row (omega arith), row_done (row / 1024) (omega arith))
+      | yes g ↦ rw (s, row_first row g)
+      | no g ↦ rw (s, row_done row (omega arith), row_done (row / 1024) (omega arith))
     ]
 
 module _ (l : List ℕ) where
@@ -205,30 +206,30 @@ module _ (l : List ℕ) where
   unfolding stands look_node stands_in
   stands_none d at i z = rw z
 
-  pub stands_start : (d at i kind map row p : ℕ) → (d ≡ 0 → ⊥) → kind ≡ byte_at l at → p ≡ onward l at 1 → map ≡ byte_at l p → fields_in_of row ≡ fields_of kind → stands_by (fields_in_of row) map i ≡ stands i (look_node l d at).value
+  pub stands_start : (d at i kind map row p : ℕ) → (d ≡ 0 → ⊥) → kind ≡ byte_at l at → p ≡ onward l at 1 → map ≡ byte_at l p → fields_in_of row ≡ fields_of kind → stands_by (fields_in_of row) map (i - 0) ≡ stands i (look_node l d at).value
   unfolding stands look_node
   stands_start zero at i kind map row p z e f g w = absurd (z refl)
   stands_start (suc d) at i kind map row p z e f g w =
-      ap (λ (fs : List Field). stands_by fs map i) w ∙ rw (e, g, f) (sym (fields_stand (λ q. look_node l d q) (fields_of (byte_at l at)) (byte_at l (onward l at 1)) (onward l at 2) i))
+      let s : i - 0 ≡ i = omega arith in
+      rw s
+      (ap (λ (fs : List Field). stands_by fs map i) w ∙ rw (e, g, f) (sym (fields_stand (λ q. look_node l d q) (fields_of (byte_at l at)) (byte_at l (onward l at 1)) (onward l at 2) i)))
 
-  pub stands_more : (row m n : ℕ) → 0 < n → stands_by (fields_in_of (row / 1024)) (m / 2) (n - 1) ≡ stands_by (fields_in_of row) m n
+  pub stands_more : (row m n i : ℕ) → i < n → stands_by (fields_in_of (row / 1024)) (m / 2) (n - (i + 1)) ≡ stands_by (fields_in_of row) m (n - i)
   unfolding stands_by
-  stands_more row m zero h = absurd (omega arith)
-  stands_more row m (suc n) h =
-      let s : suc n - 1 ≡ n = omega arith in
+  stands_more row m n i h =
+      let s : n - i ≡ suc (n - (i + 1)) = omega arith in
       elim (dec_lt 0 row) [
-        | yes g ↦ rw (row_first row g, s)
-        | no g ↦ rw (row_done row (omega arith), row_done (row / 1024) (omega arith))
+        | yes g ↦ rw (s, row_first row g)
+        | no g ↦ rw (s, row_done row (omega arith), row_done (row / 1024) (omega arith))
       ]
 
-  pub stands_past : (row m n : ℕ) → n ≤ 0 → row ≡ 0 → false ≡ stands_by (fields_in_of row) m n
+  pub stands_past : (row m n : ℕ) → row ≡ 0 → not (eqb row 0) ≡ stands_by (fields_in_of row) m n
   unfolding stands_by
-  stands_past row m n h z = rw (row_done row z)
+  stands_past row m n z = ap (λ (x : ℕ). not (eqb x 0)) z ∙ rw (row_done row z)
 
-  pub stands_end : (row m n : ℕ) → n ≤ 0 → (row ≡ 0 → ⊥) → eqb (m % 2) 1 ≡ stands_by (fields_in_of row) m n
+  pub stands_end : (row m n i : ℕ) → n ≤ i → (row ≡ 0 → ⊥) → eqb (m % 2) 1 ≡ stands_by (fields_in_of row) m (n - i)
   unfolding stands_by
-  stands_end row m zero h z = rw (row_first row (omega arith))
-  stands_end row m (suc n) h z = absurd (omega arith)
+  stands_end row m n i h z = let s : n - i ≡ 0 = omega arith in rw (s, row_first row (omega arith))
 
   -- ---- an item
 
@@ -247,13 +248,13 @@ module _ (l : List ℕ) where
   -- ---- a field that holds a node or a list
 
   -- what holds a node has levels
-  pub one_levels : (d at i q : ℕ) (r : Part) → r ≡ One q → part_values r ≡ part_at l d at i → 1 ≤ d
+  pub one_levels : (d at i q : ℕ) (r : std.Option Part) (p : Part) → r ≡ Some p → p ≡ One q → field_values r ≡ part_at l d at i → 1 ≤ d
   unfolding part_at
-  one_levels zero at i q r e f = let w : Content.node q ≡ Content.absent = sym (ap part_values e) ∙ f in let z : ◌≡◌ {A = ℕ} 0 1 = cc in absurd (omega arith)
-  one_levels (suc d) at i q r e f = omega arith
+  one_levels zero at i q r p e g f = let w : Content.node q ≡ Content.absent = sym (ap field_values (e ∙ ap Some g)) ∙ f in let z : ◌≡◌ {A = ℕ} 0 1 = cc in absurd (omega arith)
+  one_levels (suc d) at i q r p e g f = omega arith
 
-  pub placed : (d at i : ℕ) (r s : Part) → r ≡ s → part_values r ≡ part_at l d at i → place_of d at (part_values s) ≡ place_of d at (part_at l d at i)
-  placed d at i r s e f = ap (place_of d at) (sym (ap part_values e) ∙ f)
+  pub placed : (d at i : ℕ) (r : std.Option Part) (s : Place) → field_values r ≡ part_at l d at i → s ≡ place_of d at (field_values r) → s ≡ place_of d at (part_at l d at i)
+  placed d at i r s f e = e ∙ ap (place_of d at) f
 
-  pub run : (d at i : ℕ) (r s : Part) → r ≡ s → part_values r ≡ part_at l d at i → run_of at (part_values s) ≡ run_of at (part_at l d at i)
-  run d at i r s e f = ap (run_of at) (sym (ap part_values e) ∙ f)
+  pub run : (d at i : ℕ) (r : std.Option Part) (s : Run) → field_values r ≡ part_at l d at i → s ≡ run_of at (field_values r) → s ≡ run_of at (part_at l d at i)
+  run d at i r s f e = e ∙ ap (run_of at) f

@@ -24,8 +24,6 @@ use Rattle.lowering.specs.Keys as keys
 use Rattle.lowering.specs.Keys.{key_sort, is_primitive, promised, literal_text, literal_refusal, excluded_key, key_temporary, all_primitive, keys_refusal, excluded_keys, key_temporaries, key_text}
 use Rattle.lowering.specs.Keys.Key.{name, literal, template, private, again, other}
 use Rattle.lowering.specs.Rests.{has_no_properties}
-use Rattle.pattern.specs.declared.parts.Part.{Part}
-use Rattle.pattern.specs.declared.parts.Part.TheVariants.{Text}
 use Rattle.pattern.specs.declared.parts.Place.{Place}
 use Rattle.pattern.specs.declared.parts.Run.{Run}
 use Rattle.pattern.specs.declared.keys.Key.{Key}
@@ -33,7 +31,7 @@ use Rattle.pattern.specs.declared.keys.Key.TheVariants as variants
 use Rattle.pattern.specs.declared.keys.Key.TheVariants.{OtherForm, Template, Private, Again, Other}
 use Rattle.pattern.specs.declared.numbers.Spelling.{Spelling}
 use Rattle.pattern.specs.declared.numbers.Spelling.TheVariants.{Decimal, Hexadecimal, Another}
-use Rattle.pattern.specs.Parts.{Content, part_values, part_at, text_in_of, standing, place_of, run_of}
+use Rattle.pattern.specs.Parts.{Content, part_at, text_in_of, standing, place_of, run_of}
 use Rattle.pattern.specs.Numbers.{Numeral, spelling_value, spelled_as_of, is_string_of}
 use Rattle.pattern.specs.Tally as tally
 use Rattle.pattern.specs.Tally.{Totals, limited, both, sum}
@@ -223,41 +221,41 @@ module _ (l : List ℕ) where
     | no g ↦ let t : to ≡ from + len = rw (le-leb (from + len) (length l) (omega arith)) at e in omega arith
   ]
 
-  pub spelled_text : (from len to : ℕ) (p : Part) (r : Numeral) → p ≡ Text from len → to ≡ onward l from len → from ≤ to → r ≡ spelled_as_of (take (to - from) (drop from l)) → r ≡ spelled_as_of (text_in_of l (part_values p))
-  spelled_text from len to p r e f h v = v ∙ ap spelled_as_of (text_clipped from len to f h) ∙ ap (λ (q : Part). spelled_as_of (text_in_of l (part_values q))) (sym e)
+  pub spelled_text : (from len to : ℕ) (p : Content) (r : Numeral) → p ≡ Content.text from len → to ≡ onward l from len → from ≤ to → r ≡ spelled_as_of (take (to - from) (drop from l)) → r ≡ spelled_as_of (text_in_of l p)
+  spelled_text from len to p r e f h v = v ∙ ap spelled_as_of (text_clipped from len to f h) ∙ ap (λ (q : Content). spelled_as_of (text_in_of l q)) (sym e)
 
-  pub spelled_past : (from len to : ℕ) (p : Part) → p ≡ Text from len → to ≡ onward l from len → to < from → Numeral.another ≡ spelled_as_of (text_in_of l (part_values p))
+  pub spelled_past : (from len to : ℕ) (p : Content) → p ≡ Content.text from len → to ≡ onward l from len → to < from → Numeral.another ≡ spelled_as_of (text_in_of l p)
   unfolding onward spelled_as_of spelling_of
   spelled_past from len to p e f h = elim (dec_lt (length l) (from + len)) [
     | yes g ↦
         let t : to ≡ length l = rw (lt-leb (from + len) (length l) g) at f in
-        sym (ap (λ (q : Part). spelled_as_of (text_in_of l (part_values q))) e ∙ ap (λ (x : List ℕ). spelled_as_of (take len x)) (drop_of_length-le l {i = from} (omega arith)) ∙ ap spelled_as_of (take-nil len))
+        sym (ap (λ (q : Content). spelled_as_of (text_in_of l q)) e ∙ ap (λ (x : List ℕ). spelled_as_of (take len x)) (drop_of_length-le l {i = from} (omega arith)) ∙ ap spelled_as_of (take-nil len))
     | no g ↦ let t : to ≡ from + len = rw (le-leb (from + len) (length l) (omega arith)) at f in absurd (omega arith)
   ]
 
   -- no text is read as the empty one
-  pub spelled_none : (p q : Part) → p ≡ q → text_in_of l (part_values q) ≡ [] → Numeral.another ≡ spelled_as_of (text_in_of l (part_values p))
+  pub spelled_none : (p : Content) → text_in_of l p ≡ [] → Numeral.another ≡ spelled_as_of (text_in_of l p)
   unfolding spelled_as_of spelling_of
-  spelled_none p q e f = sym (ap (λ (x : Part). spelled_as_of (text_in_of l (part_values x))) e ∙ ap spelled_as_of f)
+  spelled_none p f = sym (ap spelled_as_of f)
 
   -- ---- beside its form
 
-  module _ (v : ℕ) (alone : Key) (p : Content) (b : Bool) (w : b ≡ standing p) where
-    pub beside_none : b ≡ false → alone ≡ beside_form l v alone p
+  module _ (v : ℕ) (alone : Key) (p : Content) where
+    pub beside_none : standing p ≡ false → alone ≡ beside_form l v alone p
     unfolding beside_form
-    beside_none h = rw (sym w ∙ h)
+    beside_none h = rw h
 
     module _ (s : Numeral) (f : Bool) (e : s ≡ spelled_as_of (text_in_of l p)) (g : f ≡ is_string_of v s) where
       tested : f ≡ is_string_of v (spelled_as_of (text_in_of l p))
       tested = g ∙ ap (is_string_of v) e
 
-      pub beside_same : b ≡ true → f ≡ true → (r : Key) → r ≡ form_in p → r ≡ beside_form l v alone p
+      pub beside_same : standing p ≡ true → f ≡ true → (r : Key) → r ≡ form_in p → r ≡ beside_form l v alone p
       unfolding beside_form
-      beside_same h t r x = rw (sym w ∙ h, sym tested ∙ t) x
+      beside_same h t r x = rw (h, sym tested ∙ t) x
 
-      pub beside_other : b ≡ true → f ≡ false → OtherForm v ≡ beside_form l v alone p
+      pub beside_other : standing p ≡ true → f ≡ false → OtherForm v ≡ beside_form l v alone p
       unfolding beside_form
-      beside_other h t = rw (sym w ∙ h, sym tested ∙ t)
+      beside_other h t = rw (h, sym tested ∙ t)
 
   -- ---- by what its spelling is
 

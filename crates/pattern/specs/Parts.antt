@@ -1,6 +1,8 @@
 -- What the fields of a node hold, as positions: a node's position, a list's length and first item, a text's bytes.
 use Rattle.std.specs.Prelude.{ℕ, zero, suc, ◌+◌, ◌-◌, Bool, true, false, cond, ◌&&◌, List, [], eqb, get_or, take, drop}
 use Rattle.std.proofs.Math.Option.{Option, some}
+use Rattle.std.specs.Prelude as std
+use Rattle.std.specs.Prelude.{Some, None}
 use Rattle.tree.specs.Tree.{Node, Items}
 use Rattle.tree.specs.Grammar.{Sort, Field, fields_of}
 use Rattle.tree.specs.Grammar.Sort.{child, chosen, many, gaps, byte, mark, number}
@@ -8,7 +10,7 @@ use Rattle.tree.specs.Grammar.Field.{must}
 use Rattle.tree.specs.Read.{byte_at, wide_at, sort_in}
 use Rattle.tree.specs.Look.{onward, look_node, look_items, seek_fields}
 use Rattle.pattern.specs.declared.parts.Part.{Part}
-use Rattle.pattern.specs.declared.parts.Part.TheVariants.{One, Many, Text, Number, Missing}
+use Rattle.pattern.specs.declared.parts.Part.TheVariants.{One, Many, Text, Number}
 use Rattle.pattern.specs.declared.parts.Place.{Place}
 use Rattle.pattern.specs.declared.parts.Run.{Run}
 
@@ -24,10 +26,13 @@ pub data Content : Type 0 where
 -- the values of each case of the code's answer. Document 01 has no number for it: nothing is refused
 abbrev pub part_values : Part → Content
 part_values (One q) = node q
-part_values (Many h n p) = list h n p
+part_values (Many r) = list r.holes r.count r.from
 part_values (Text p n) = text p n
 part_values Number = plain
-part_values Missing = absent
+
+abbrev pub field_values : std.Option Part → Content
+field_values None = absent
+field_values (Some p) = part_values p
 
 -- what field i of the fields holds
 abbrev pub sort_at : List Field → ℕ → Sort

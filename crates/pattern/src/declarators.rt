@@ -11,7 +11,7 @@ ghost use Rattle.pattern.specs.Declarators.{made, item_count_of, declarator_refu
 
 use crate::tally::Tally;
 use crate::{keys, parts, rests, search, source, tally};
-use tree::{bytes, skip};
+use tree::{bytes, kinds, skip};
 
 // The declarators of the objects that were counted: keys, pattern, rest.
 fn made(t: Tally) -> usize
@@ -29,7 +29,7 @@ pub fn pattern_declarators(tree: &[u8], left: usize, at: usize) -> usize
     }
     let kind = bytes::peek(tree, at);
     match kind {
-        34 => {
+        kinds::OBJECT_PATTERN => {
             let n = made(rests::rests(tree, left, at));
             if parts::stands(tree, left, at, 1) {
                 return n;
@@ -39,7 +39,7 @@ pub fn pattern_declarators(tree: &[u8], left: usize, at: usize) -> usize
             }
             tally::plus(n, 1)
         }
-        36 => tally::plus(made(rests::rests(tree, left, at)), 1),
+        kinds::ARRAY_PATTERN => tally::plus(made(rests::rests(tree, left, at)), 1),
         _ => 0,
     }
 }

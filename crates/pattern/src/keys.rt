@@ -9,7 +9,7 @@ ghost use Rattle.lowering.specs.Keys.{all_primitive, keys_refusal, excluded_keys
 ghost use Rattle.pattern.specs.Refusals.{refusal_number};
 ghost use Rattle.pattern.specs.Tally.{limited, tally_values, no_tally, both};
 ghost use Rattle.lowering.specs.Rests.{has_no_properties};
-ghost use Rattle.pattern.specs.Parts.{part_values, text_in_of, standing};
+ghost use Rattle.pattern.specs.Parts.{field_values, text_in_of};
 ghost use Rattle.pattern.specs.Numbers.{spelling_value, spelled_as_of, is_string_of};
 ghost use Rattle.pattern.specs.Keys.{name_in_of, form_in, beside_form, literal_by, literal_at, Keyed, Becomes, counts, key_counts, keys_of, item_keys};
 
@@ -17,7 +17,7 @@ use crate::numbers::Spelling;
 use crate::parts::Part;
 use crate::tally::Tally;
 use crate::{numbers, parts, tally};
-use tree::{bytes, skip};
+use tree::{bytes, kinds, skip};
 
 // What a key becomes among the excluded keys: a string of the bytes of a name or of a literal's form, which are also those
 // of a decimal spelling; a string of the digits of a number's value; that template; the name or temporary read again; a
@@ -36,64 +36,40 @@ pub enum Key {
     Other,
 }
 
-fn named(p: Part) -> Key
-    ensures { Keyed result (name_in_of (part_values p)) }
+#[tactic(auto, unfolding(crate::specs::Keys::name_in_of))]
+fn named(p: Option<Part>) -> Key
+    ensures { Keyed result (name_in_of (field_values p)) }
 {
     match p {
-        Part::Text { from, len } => Key::Name {
-            from: from,
-            len: len,
-        },
-        Part::One(_) => Key::Name { from: 0, len: 0 },
-        Part::Many {
-            holes: _,
-            count: _,
-            from: _,
-        } => Key::Name { from: 0, len: 0 },
-        Part::Number => Key::Name { from: 0, len: 0 },
-        Part::Missing => Key::Name { from: 0, len: 0 },
+        Some(Part::Text { from, len }) => Key::Name { from, len },
+        _ => Key::Name { from: 0, len: 0 },
     }
 }
 
-fn formed(p: Part) -> Key
-    ensures { Keyed result (form_in (part_values p)) }
+#[tactic(auto, unfolding(crate::specs::Keys::form_in))]
+fn formed(p: Option<Part>) -> Key
+    ensures { Keyed result (form_in (field_values p)) }
 {
     match p {
-        Part::Text { from, len } => Key::Literal {
-            from: from,
-            len: len,
-        },
-        Part::One(_) => Key::Literal { from: 0, len: 0 },
-        Part::Many {
-            holes: _,
-            count: _,
-            from: _,
-        } => Key::Literal { from: 0, len: 0 },
-        Part::Number => Key::Literal { from: 0, len: 0 },
-        Part::Missing => Key::NoForm,
+        Some(Part::Text { from, len }) => Key::Literal { from, len },
+        Some(_) => Key::Literal { from: 0, len: 0 },
+        None => Key::NoForm,
     }
 }
 
 // What a text is as a number.
-fn spelled_in(tree: &[u8], p: Part) -> Spelling
-    ensures { spelling_value result ≡ spelled_as_of (text_in_of tree.now (part_values p)) }
+fn spelled_in(tree: &[u8], p: Option<Part>) -> Spelling
+    ensures { spelling_value result ≡ spelled_as_of (text_in_of tree.now (field_values p)) }
 {
     match p {
-        Part::Text { from, len } => {
+        Some(Part::Text { from, len }) => {
             let to = skip::step(tree, from, len);
             if from <= to {
                 return numbers::spelled(&tree[from..to]);
             }
             Spelling::Another
         }
-        Part::One(_) => Spelling::Another,
-        Part::Many {
-            holes: _,
-            count: _,
-            from: _,
-        } => Spelling::Another,
-        Part::Number => Spelling::Another,
-        Part::Missing => Spelling::Another,
+        _ => Spelling::Another,
     }
 }
 
@@ -108,38 +84,22 @@ fn is_string(s: Spelling, value: usize) -> bool
     }
 }
 
-fn standing(p: Part) -> bool
-    ensures { result ≡ standing (part_values p) }
-{
-    match p {
-        Part::One(_) => true,
-        Part::Many {
-            holes: _,
-            count: _,
-            from: _,
-        } => true,
-        Part::Text { from: _, len: _ } => true,
-        Part::Number => true,
-        Part::Missing => false,
-    }
-}
-
 // A number beside its form.
-fn beside_form(tree: &[u8], value: usize, alone: Key, form: Part) -> Key
-    ensures { Keyed result (beside_form tree.now value alone (part_values form)) }
+fn beside_form(tree: &[u8], value: usize, alone: Key, form: Option<Part>) -> Key
+    ensures { Keyed result (beside_form tree.now value alone (field_values form)) }
 {
-    if standing(form) {
-        if is_string(spelled_in(tree, form), value) {
-            return formed(form);
-        }
-        return Key::OtherForm { value };
+    if form.is_none() {
+        return alone;
     }
-    alone
+    if is_string(spelled_in(tree, form), value) {
+        return formed(form);
+    }
+    Key::OtherForm { value }
 }
 
 // A literal by what its spelling is.
-fn literal_by(tree: &[u8], s: Spelling, spelling: Part, form: Part) -> Key
-    ensures { Keyed result (literal_by tree.now (spelling_value s) (part_values spelling) (part_values form)) }
+fn literal_by(tree: &[u8], s: Spelling, spelling: Option<Part>, form: Option<Part>) -> Key
+    ensures { Keyed result (literal_by tree.now (spelling_value s) (field_values spelling) (field_values form)) }
 {
     match s {
         Spelling::Decimal(v) => beside_form(tree, v, formed(spelling), form),
@@ -179,28 +139,28 @@ pub fn transform_property_key(tree: &[u8], left: usize, at: usize) -> Key
     }
     let kind = bytes::peek(tree, at);
     match kind {
-        18 => {
+        kinds::REFERENCE => {
             if parts::stands(tree, left, at, 1) {
                 return Key::Again;
             }
             Key::Other
         }
-        20 => Key::Again,
-        22 => literal(tree, left, at),
-        23 => {
+        kinds::TEMPORARY => Key::Again,
+        kinds::LITERAL => literal(tree, left, at),
+        kinds::TEMPLATE => {
             let quasis = parts::list(tree, left, at, 0);
             if quasis.count == 1 {
                 return Key::Template;
             }
             Key::Other
         }
-        38 => {
+        kinds::STATIC_KEY => {
             if bytes::peek(tree, skip::step(tree, at, 1)) % 2 == 1 {
-                return named(parts::text(tree, skip::step(tree, at, 2)));
+                return named(Some(parts::text(tree, skip::step(tree, at, 2))));
             }
             named(parts::field(tree, left, at, 0))
         }
-        39 => Key::Private,
+        kinds::PRIVATE_KEY => Key::Private,
         _ => Key::Other,
     }
 }
@@ -254,10 +214,10 @@ fn has_static_key(tree: &[u8], holes: bool, left: usize, at: usize) -> bool
 {
     if !holes
         && 1 < left
-        && bytes::peek(tree, at) == 35
+        && bytes::peek(tree, at) == kinds::PATTERN_PROPERTY
         && bytes::peek(tree, skip::step(tree, at, 1)) % 2 == 1
     {
-        return bytes::peek(tree, skip::step(tree, at, 2)) == 38;
+        return bytes::peek(tree, skip::step(tree, at, 2)) == kinds::STATIC_KEY;
     }
     false
 }

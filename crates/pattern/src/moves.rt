@@ -8,7 +8,7 @@ ghost use Rattle.pattern.specs.Tally.{limited};
 ghost use Rattle.pattern.specs.Moves.{moved_below};
 
 use crate::{parts, search, tally};
-use tree::{bytes, skip};
+use tree::{bytes, kinds, skip};
 
 // Out of a pattern.
 fn moved(tree: &[u8], left: usize, at: usize) -> usize
@@ -20,8 +20,8 @@ fn moved(tree: &[u8], left: usize, at: usize) -> usize
     let below = left - 1;
     let kind = bytes::peek(tree, at);
     match kind {
-        34 => 1,
-        36 => {
+        kinds::OBJECT_PATTERN => 1,
+        kinds::ARRAY_PATTERN => {
             let run = parts::list(tree, left, at, 0);
             let mut p = run.from;
             let mut t = 0;
@@ -33,7 +33,7 @@ fn moved(tree: &[u8], left: usize, at: usize) -> usize
             let rest = parts::child(tree, left, at, 1);
             tally::plus(t, moved(tree, rest.left, rest.at))
         }
-        37 => 1,
+        kinds::DEFAULT => 1,
         _ => 0,
     }
 }

@@ -12,7 +12,7 @@ ghost use Rattle.pattern.specs.Objects.{object_itself, own_tally, rests_tally};
 
 use crate::tally::{Refusal, Tally};
 use crate::{keys, parts, tally};
-use tree::{bytes, skip};
+use tree::{bytes, kinds, skip};
 
 #[tactic(auto, unfolding(crate::specs::Objects::object_itself))]
 fn itself(empty: bool) -> Tally
@@ -48,20 +48,20 @@ pub(crate) fn rests(tree: &[u8], left: usize, at: usize) -> Tally
     let below = left - 1;
     let kind = bytes::peek(tree, at);
     match kind {
-        34 => {
+        kinds::OBJECT_PATTERN => {
             let run = parts::list(tree, left, at, 0);
             let mut p = run.from;
             let mut t = Tally::default();
             for _ in 0..run.count {
                 let v = parts::value(tree, below, p);
-                if 33 < bytes::peek(tree, v.at) {
+                if kinds::OTHER_EXPRESSION < bytes::peek(tree, v.at) {
                     t = tally::both(t, rests(tree, v.left, v.at));
                 }
                 p = skip::skip(tree, below, p);
             }
             tally::both(t, own(tree, left, at))
         }
-        36 => {
+        kinds::ARRAY_PATTERN => {
             let run = parts::list(tree, left, at, 0);
             let mut p = run.from;
             let mut t = Tally::default();
@@ -72,7 +72,7 @@ pub(crate) fn rests(tree: &[u8], left: usize, at: usize) -> Tally
             }
             t
         }
-        37 => {
+        kinds::DEFAULT => {
             let l = parts::child(tree, left, at, 0);
             rests(tree, l.left, l.at)
         }

@@ -4,7 +4,7 @@ ghost use Rattle.tree.specs.Look.{look_node};
 ghost use Rattle.lowering.specs.Patterns.{has_object_rest, has_array_rest_over_object_rest};
 
 use crate::parts;
-use tree::{bytes, skip};
+use tree::{bytes, kinds, skip};
 
 // Whether an object rest stands in the pattern or below it. Bindings and targets are of the same kinds.
 pub fn has_nested_object_rest(tree: &[u8], left: usize, at: usize) -> bool
@@ -16,7 +16,7 @@ pub fn has_nested_object_rest(tree: &[u8], left: usize, at: usize) -> bool
     let below = left - 1;
     let kind = bytes::peek(tree, at);
     match kind {
-        34 => {
+        kinds::OBJECT_PATTERN => {
             if parts::stands(tree, left, at, 1) {
                 return true;
             }
@@ -31,7 +31,7 @@ pub fn has_nested_object_rest(tree: &[u8], left: usize, at: usize) -> bool
             }
             false
         }
-        36 => {
+        kinds::ARRAY_PATTERN => {
             let run = parts::list(tree, left, at, 0);
             let mut p = run.from;
             for _ in 0..run.count {
@@ -44,7 +44,7 @@ pub fn has_nested_object_rest(tree: &[u8], left: usize, at: usize) -> bool
             let rest = parts::child(tree, left, at, 1);
             has_nested_object_rest(tree, rest.left, rest.at)
         }
-        37 => {
+        kinds::DEFAULT => {
             let l = parts::child(tree, left, at, 0);
             has_nested_object_rest(tree, l.left, l.at)
         }
@@ -62,7 +62,7 @@ pub fn has_rest_below_array_rest(tree: &[u8], left: usize, at: usize) -> bool
     let below = left - 1;
     let kind = bytes::peek(tree, at);
     match kind {
-        34 => {
+        kinds::OBJECT_PATTERN => {
             let run = parts::list(tree, left, at, 0);
             let mut p = run.from;
             for _ in 0..run.count {
@@ -74,7 +74,7 @@ pub fn has_rest_below_array_rest(tree: &[u8], left: usize, at: usize) -> bool
             }
             false
         }
-        36 => {
+        kinds::ARRAY_PATTERN => {
             let run = parts::list(tree, left, at, 0);
             let mut p = run.from;
             for _ in 0..run.count {
@@ -87,7 +87,7 @@ pub fn has_rest_below_array_rest(tree: &[u8], left: usize, at: usize) -> bool
             let rest = parts::child(tree, left, at, 1);
             has_nested_object_rest(tree, rest.left, rest.at)
         }
-        37 => {
+        kinds::DEFAULT => {
             let l = parts::child(tree, left, at, 0);
             has_rest_below_array_rest(tree, l.left, l.at)
         }

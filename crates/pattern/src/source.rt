@@ -4,7 +4,7 @@ ghost use Rattle.tree.specs.Look.{look_node};
 ghost use Rattle.lowering.specs.Declarations.{is_name_of};
 ghost use Rattle.pattern.specs.Source.{read_values, builder_of, held_in, read_of, place_read, after_read};
 
-use tree::bytes;
+use tree::{bytes, kinds};
 
 // What a read gives: the expression at a place, or the temporary of a cell with its stem.
 #[derive(Clone, Copy)]
@@ -60,8 +60,8 @@ pub fn is_name(tree: &[u8], left: usize, at: usize) -> bool
     }
     let kind = bytes::peek(tree, at);
     match kind {
-        18 => true,
-        20 => true,
+        kinds::REFERENCE => true,
+        kinds::TEMPORARY => true,
         _ => false,
     }
 }

@@ -1,9 +1,11 @@
+use Prim.Native.Nat.{◌-◌}
 use mathlib.Core.Path.{◌∙◌}
+use native.Mathlib.Omega.{arith}
 use Rattle.pattern.proofs.Fields as law
 use Rattle.pattern.proofs.parts.code_at.Goals as goal
 
-pub loop-n-preserved : goal.loop-n-preserved
-loop-n-preserved c = law.code_more _ _ c.loop-n-test.true ∙ c.loop-n.invariant
+pub loop-preserved : goal.loop-preserved
+loop-preserved c = law.code_more _ _ _ c.loop-test.true ∙ c.loop.invariant
 
 pub returns : goal.returns
-returns c = law.code_end _ _ c.loop-n-test.false ∙ c.loop-n.invariant
+returns c = let h = c.loop-test.false in law.code_end c.loop.r (c.args.i - c.loop.counter) (omega arith) ∙ c.loop.invariant

@@ -1,3 +1,4 @@
+use Prim.Native.Nat.{◌-◌}
 use mathlib.Core.Path.{◌≡◌}
 use Rattle.pattern.proofs.Fields as law
 use Rattle.tree.specs.Rows.{fields_in_of}
@@ -5,8 +6,5 @@ use Rattle.tree.specs.Look.{look_node}
 use Rattle.lowering.specs.Parts.{stands}
 use Rattle.pattern.proofs.parts.stands.Given as goal
 
-abbrev pub invariant-loop-n : goal.invariant-loop-n
-invariant-loop-n l = law.stands_by l.tree (fields_in_of l.r) l.m l.n ≡ stands l.i (look_node l.tree l.left l.at).value
-
-abbrev pub decreases-loop-n : goal.decreases-loop-n
-decreases-loop-n l = l.n
+abbrev pub invariant-loop : goal.invariant-loop
+invariant-loop l = law.stands_by l.tree (fields_in_of l.r) l.m (l.i - l.counter) ≡ stands l.i (look_node l.tree l.left l.at).value

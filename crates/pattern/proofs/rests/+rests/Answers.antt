@@ -5,7 +5,7 @@ use Rattle.pattern.proofs.RestsFound as law
 use Rattle.pattern.proofs.NodeParts as places
 use Rattle.pattern.proofs.Searches as search
 use Rattle.pattern.proofs.rests.+rests.Goals as goal
-use Rattle.pattern.proofs.rests.+rests.Goals.{else-peek-gt33, then-peek-gt33}
+use Rattle.pattern.proofs.rests.+rests.Goals.{else-peek-gt-OTHER_EXPRESSION, then-peek-gt-OTHER_EXPRESSION}
 
 pub returns-then-left-eq0 : goal.returns-then-left-eq0
 returns-then-left-eq0 t c = λ k. law.rests_none _ k _ _ _ c.if-left-eq0.true (tally_empty _ c.default.ensures)
@@ -17,7 +17,7 @@ pub rests-requires : goal.rests-requires
 rests-requires t c = (let h = search.value_falls _ _ _ _ c.if-left-eq0.false c.value-v.ensures in omega arith, tt)
 
 pub loop-preserved : goal.loop-preserved
-loop-preserved t c = (elim c.if-peek-gt33.branch [ then-peek-gt33 w ↦ rw w.t-is (law.value_more _ _ _ _ _ _ _ _ _ _ _ _ c.loop-test.true c.value-v.ensures w.rests.ensures c.skip-p.ensures w.both-t.ensures c.loop.invariant) | else-peek-gt33 w ↦ rw w.t-is (law.value_passed _ _ _ _ _ _ _ _ _ _ _ c.loop-test.true c.value-v.ensures c.peek.ensures.value w.if-peek-gt33.false c.skip-p.ensures c.loop.invariant) ])
+loop-preserved t c = (elim c.if-peek-gt-OTHER_EXPRESSION.branch [ then-peek-gt-OTHER_EXPRESSION w ↦ rw w.t-is (law.value_more _ _ _ _ _ _ _ _ _ _ _ _ c.loop-test.true c.value-v.ensures w.rests.ensures c.skip-p.ensures w.both-t.ensures c.loop.invariant) | else-peek-gt-OTHER_EXPRESSION w ↦ rw w.t-is (law.value_passed _ _ _ _ _ _ _ _ _ _ _ c.loop-test.true c.value-v.ensures c.peek.ensures.value w.if-peek-gt-OTHER_EXPRESSION.false c.skip-p.ensures c.loop.invariant) ])
 
 pub loop-2-init : goal.loop-2-init
 loop-2-init t c = law.items_start _ _ _ _ c.if-left-eq0.false c.peek-kind.ensures.value _ _ c.in-36.is c.list-run-in-36.ensures (tally_empty _ c.default-t-in-36.ensures)
