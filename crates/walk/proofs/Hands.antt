@@ -287,13 +287,3 @@ module _ (t : List ℕ) where
   item_does d at n e p z k good =
       let b : hole_at t true at ≡ false = no_hole t true at n refl p z in
       does_as (k (good b)) (ap (λ (x : Bool). cond x (say []) e) (sym b))
-
--- ---- tests of the view
-
-pub replaces_rest : (v : views.View) (r b : Bool) → v ≡ Replacing → r ≡ b → r ≡ cond (takes (view_of v)) false b
-unfolding view_of
-replaces_rest v r b x e = rw x e
-
-pub replaces_taking : (v : views.View) (b : Bool) → v ≡ Taking → false ≡ cond (takes (view_of v)) false b
-unfolding view_of
-replaces_taking v b e = rw e refl

@@ -74,20 +74,6 @@ pub not_no : (b n : Bool) → n ≡ not b → n ≡ false → b ≡ true
 not_no true n e h = refl
 not_no false n e h = absurd (false≢true (sym h ∙ e))
 
--- ---- modes
-
-pub item_found : (d : Deep) → d ≡ Found → modes.Below Found ≡ item_mode d
-item_found d e = rw e refl
-
-pub item_reached : (d : Deep) (r : reaches.Reach) → d ≡ Reached r → modes.Below (Reached Anywhere) ≡ item_mode d
-item_reached d r e = rw e refl
-
-pub arrays_found : (d : Deep) → d ≡ Found → true ≡ enters_arrays d
-arrays_found d e = rw e refl
-
-pub arrays_reached : (d : Deep) (r : reaches.Reach) (b : Bool) → d ≡ Reached r → b ≡ enters (reach_of r) → b ≡ enters_arrays d
-arrays_reached d r b e h = rw e h
-
 -- ---- bits of a bit map
 
 pub first_of : (t : List ℕ) (at p m : ℕ) → p ≡ onward t at 1 → Peeked t p m → m % 2 ≡ byte_at t (onward t at 1) % 2
@@ -95,14 +81,6 @@ first_of t at p m e w = ap (λ (x : ℕ). x % 2) (w.value ∙ ap (λ (x : ℕ). 
 
 pub second_of_lem : (t : List ℕ) (at p m : ℕ) → p ≡ onward t at 1 → Peeked t p m → m / 2 % 2 ≡ byte_at t (onward t at 1) / 2 % 2
 second_of_lem t at p m e w = ap (λ (x : ℕ). x / 2 % 2) (w.value ∙ ap (λ (x : ℕ). byte_at t x) e)
-
--- ---- levels
-
-pub level_none : (left : ℕ) (i : Bool) → i ≡ true → left ≡ 0 → (0 ≡ cond i (left - 1) left) × (0 ≤ left)
-level_none left i e z = (rw (e, z) refl, omega arith)
-
-pub level_below : (left : ℕ) (i : Bool) → i ≡ true → (left - 1 ≡ cond i (left - 1) left) × (left - 1 ≤ left)
-level_below left i e = (rw e refl, omega arith)
 
 -- ---- cells
 

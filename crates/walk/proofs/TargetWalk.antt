@@ -146,11 +146,6 @@ module _ (t : List ℕ) where
       let k' = subst (λ (y : ℕ). Good t left y → Does g g' (Found reach (look_node t left y).value)) place k in
       does_as (k' u.value) (ap (λ (y : Seen Node). Found reach (value y.value)) (sym u.whole))
 
-  pub property_none : {g g' : Going} (left at : ℕ) (reach : reaches.Reach) → left ≡ 0 → Good t (suc left) at → byte_at t at ≡ 35 → Does g g' (Found reach (value (look_node t (suc left) at).value))
-  property_none left at reach z good kind =
-      let u = property_open t left at good kind in
-      no_good t _ (subst (λ (m : ℕ). Good t m (look_node t left (onward t at 2)).next) z u.value)
-
   -- ---- the items of an array that stands a level above d
 
   module _ (d at : ℕ) where
