@@ -1,14 +1,14 @@
 -- What follows of std's orders, of numbers and of texts.
 -- Assumes nothing.
-use mathlib.Core.Path.{◌≡◌, refl, sym, ap, ap₂, ◌∙◌}
+use mathlib.Core.Path.{◌≡◌, refl, sym, ap, ap₂, subst, ◌∙◌}
 use mathlib.Core.List.{List, [], ◌∷◌}
 use Prim.Native.Nat.{ℕ, ◌<◌}
 use native.Mathlib.Omega.{arith}
 use Rattle.std.specs.Cmp.{IsTotalOrder}
 use Rattle.std.specs.declared.cmp.Ordering.{Ordering}
 use Rattle.std.specs.declared.cmp.Ordering.TheVariants.{Less, Equal, Greater}
-use Rattle.std.proofs.lemmas.Cmp.{ranked, by_ranked, alike_right}
-use Rattle.ordering.specs.Verdicts.{or_else, by_value, by_text}
+use Rattle.std.proofs.lemmas.Cmp.{ranked, by_ranked, alike_right, on_total, lists_total}
+use Rattle.ordering.specs.Verdicts.{or_else, by_value, by_text, lexical}
 
 -- ---- verdicts
 
@@ -42,6 +42,14 @@ both_equal Equal w e = (refl, e)
 both_equal Greater w e = absurd (greater_not_equal e)
 
 -- ---- orders
+
+-- lists of what is ordered, item by item
+pub lists_order : {A : Type 0} (c : A → A → Ordering) → IsTotalOrder c → IsTotalOrder (lexical c)
+lists_order c o = lists_total o
+
+-- what is compared by its image, or equals a comparison at each pair
+pub image_orders : {A : Type 0} (c : A → A → Ordering) (o : IsTotalOrder c) {B : Type 0} (f : B → A) (d : B → B → Ordering) → ((x y : B) → d x y ≡ c (f x) (f y)) → IsTotalOrder d
+image_orders c o f d h = subst IsTotalOrder (λ i x y. sym (h x y) i) (on_total f o)
 
 module _ {A : Type 0} {c : A → A → Ordering} (o : IsTotalOrder c) where
   pub less_then_equal : (a b d : A) → c a b ≡ Less → c b d ≡ Equal → c a d ≡ Less

@@ -1,6 +1,6 @@
 -- The laws of the order, for all trees; and the order as the first difference of two tours, each with its own table of temporaries.
 -- Assumes nothing.
-use mathlib.Core.Path.{◌≡◌, refl, sym, ap, ap₂, subst, ◌∙◌}
+use mathlib.Core.Path.{◌≡◌, refl, sym, ap, ap₂, ◌∙◌}
 use mathlib.Core.Bool.{Bool, false}
 use mathlib.Core.Logic.{◌⊎◌, inl, inr}
 use mathlib.Core.List.{List, [], ◌∷◌, ◌++◌, append_assoc, append-nil}
@@ -25,8 +25,8 @@ use Rattle.equal.proofs.Turn.{in_turn_canonical}
 use Rattle.equal.proofs.Back.{equal_unplaced}
 use Rattle.ordering.specs.Order.{compare, order, Key, key_of, by_key_of, by_event, first_difference, placed_all}
 use Rattle.std.specs.Cmp.{IsTotalOrder}
-use Rattle.std.proofs.lemmas.Cmp.{on_total, lists_total, nat_list_cmp_total, tied_itself, tied_back}
-use Rattle.ordering.proofs.LexicalOrder.{less_not_equal, greater_not_less, greater_not_equal, less_then_equal, equal_then_less, equal_then_equal}
+use Rattle.std.proofs.lemmas.Cmp.{nat_list_cmp_total, tied_itself, tied_back}
+use Rattle.ordering.proofs.LexicalOrder.{less_not_equal, greater_not_less, greater_not_equal, less_then_equal, equal_then_less, equal_then_equal, lists_order, image_orders}
 use Rattle.ordering.proofs.Bridge.{compare_events}
 use Rattle.ordering.proofs.Same.{node_bytes, node_unplaced}
 
@@ -35,27 +35,24 @@ use Rattle.ordering.proofs.Same.{node_bytes, node_unplaced}
 abbrev flat : Key → List ℕ
 flat k = k.rank ∷ k.first ∷ k.second ∷ k.text
 
-by_image : {A B : Type 0} (f : B → A) (c : A → A → Ordering) (d : B → B → Ordering) → ((x y : B) → d x y ≡ c (f x) (f y)) → IsTotalOrder c → IsTotalOrder d
-by_image f c d h o = subst IsTotalOrder (λ i x y. sym (h x y) i) (on_total f o)
-
 key_orders : IsTotalOrder by_key_of
 unfolding by_key_of
-key_orders = by_image flat by_text by_key_of (λ e f. refl) nat_list_cmp_total
+key_orders = image_orders by_text nat_list_cmp_total flat by_key_of (λ e f. refl)
 
 pub event_orders : IsTotalOrder by_event
 unfolding by_event
-event_orders = by_image key_of by_key_of by_event (λ e f. refl) key_orders
+event_orders = image_orders by_key_of key_orders key_of by_event (λ e f. refl)
 
 pub lists_of_events : IsTotalOrder first_difference
 unfolding first_difference
-lists_of_events = lists_total event_orders
+lists_of_events = lists_order by_event event_orders
 
 pub compare_orders : IsTotalOrder compare
-compare_orders = by_image events first_difference compare (λ m n. compare_events m n) lists_of_events
+compare_orders = image_orders first_difference lists_of_events events compare (λ m n. compare_events m n)
 
 pub order_orders : IsTotalOrder order
 unfolding order
-order_orders = by_image canonical compare order (λ m n. refl) compare_orders
+order_orders = image_orders compare compare_orders canonical order (λ m n. refl)
 
 -- exactly one of the three comes out
 pub record One (v : Ordering) : Type 0 where
