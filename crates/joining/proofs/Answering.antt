@@ -24,7 +24,7 @@ use Rattle.drawing.proofs.DrawingWritten.{put_length}
 use Rattle.drawing.proofs.DrawingEntry.{reach_over, put_zeros, reach_fits}
 use Rattle.joining.specs.List.{Handed, handed, read_handed, inner_marks}
 use Rattle.joining.specs.Join.{found, joined_tree}
-use Rattle.joining.specs.Answer.{taken, all_found_of, fitting, after_list_of, after_tree, outcome, filled, Answered, refusal_number, Told}
+use Rattle.joining.specs.Answer.{taken, all_found_of, fitting, after_list_of, after_tree, outcome, filled, Answered, refusal_number, Joins}
 use Rattle.joining.specs.Answer.Outcome.{refusal, tree}
 use Rattle.joining.specs.Writing.{Copied, whole_bytes}
 use Rattle.joining.specs.Spots.{Spot, place_of, statement_of, spots, tally, shares}
@@ -50,18 +50,18 @@ module _ (bytes l : List ℕ) (room : ℕ) where
   answered_refusal n answer size out e r = let z : room - 0 ≡ room = omega arith in rw (e, z) r
 
 -- on a refusal the slice is cleared at the end
-pub told_refusal : (bytes l : List ℕ) (room : ℕ) (r : Result ℕ Refusal) (out : List ℕ) → Told bytes l room r out → length out ≡ room → (e : Refusal) → r ≡ Err e → (answer size : ℕ) (out' : List ℕ) → (answer ≡ refusal_number e) × (size ≡ 0) → out' ≡ replicate (length out) 0 → Answered bytes l room answer size out'
+pub told_refusal : (bytes l : List ℕ) (room : ℕ) (r : Result ℕ Refusal) (out : List ℕ) → Joins bytes l room r out → length out ≡ room → (e : Refusal) → r ≡ Err e → (answer size : ℕ) (out' : List ℕ) → (answer ≡ refusal_number e) × (size ≡ 0) → out' ≡ replicate (length out) 0 → Answered bytes l room answer size out'
 told_refusal bytes l room r out t k e w answer size out' n z = answered_refusal bytes l room (refusal_number e) answer size out' (rw w at t) (n.0, n.1, z ∙ ap (λ (y : ℕ). replicate y 0) k)
 
 -- the error in place of a value that is missing
-pub told_missing : (bytes l : List ℕ) (room : ℕ) (r : Result ℕ Refusal) (out : List ℕ) (o : Option ℕ) (k : Result ℕ Refusal) (n e y : Refusal) → k ≡ ok_or o n → k ≡ Err e → r ≡ Err y → y ≡ e → outcome bytes l room ≡ refusal (refusal_number n) → Told bytes l room r out
+pub told_missing : (bytes l : List ℕ) (room : ℕ) (r : Result ℕ Refusal) (out : List ℕ) (o : Option ℕ) (k : Result ℕ Refusal) (n e y : Refusal) → k ≡ ok_or o n → k ≡ Err e → r ≡ Err y → y ≡ e → outcome bytes l room ≡ refusal (refusal_number n) → Joins bytes l room r out
 told_missing bytes l room r out o k n e y w z p q u = rw (p ∙ ap Err (q ∙ go o (sym w ∙ z))) u
   where
     go : (o : Option ℕ) → ok_or o n ≡ Err e → e ≡ n
     go None v = cc
     go (Some x) v = cc
 
-pub told_tree : (bytes l : List ℕ) (room : ℕ) (r : Result ℕ Refusal) (out : List ℕ) → Told bytes l room r out → (n : ℕ) → r ≡ Ok n → Answered bytes l room 0 n out
+pub told_tree : (bytes l : List ℕ) (room : ℕ) (r : Result ℕ Refusal) (out : List ℕ) → Joins bytes l room r out → (n : ℕ) → r ≡ Ok n → Answered bytes l room 0 n out
 told_tree bytes l room r out t n w = (rw w at t)
 
 -- ---- the end

@@ -1,15 +1,15 @@
 -- Bytes written one after the other, and the next free mark.
 -- Assumes nothing.
 use mathlib.Core.Path.{◌≡◌, refl, sym, ap, ◌∙◌}
-use mathlib.Core.Bool.{Bool, true, false, cond, false≢true}
+use mathlib.Core.Bool.{Bool, true, false, cond}
 use mathlib.Core.List.{List, [], ◌∷◌, ◌++◌}
-use Prim.Native.Nat.{ℕ, zero, suc, ◌+◌, ◌-◌, ◌%◌, ◌<◌, ◌≤◌, min, max}
+use Prim.Native.Nat.{ℕ, zero, suc, ◌+◌, ◌-◌, ◌%◌, ◌<◌, ◌≤◌, min}
 use native.Mathlib.Omega.{arith}
 use native.Mathlib.Decide.{dec_lt}
 use lib.Dec.{eqb, ltb}
 use lib.ListN.{length, get_or, set, take, drop, length-set, drop_of_length-le}
 use lib.Seq.{drop-cons}
-use borrow.Author.Tests.{eqb-true, eq-eqb, ne_eqb, lt-ltb, le-ltb}
+use borrow.Author.Tests.{eq-eqb, ne_eqb, lt-ltb, le-ltb}
 use Rattle.tree.specs.Tree.{wide_bytes}
 use Rattle.tree.specs.Read.{byte_at, wide_at}
 use Rattle.drawing.specs.Pen.{next, put, reach}
@@ -71,9 +71,6 @@ module _ (l₀ : List ℕ) (at : ℕ) (from : List ℕ) (start stop : ℕ) where
     pub size : length l ≡ length l₀
     pub ends : reach (length l) p (part i stop from) ≡ reach (length l₀) at (part start stop from)
     pub bytes : put l p (part i stop from) ≡ put l₀ at (part start stop from)
-
-  pub copying_start : Copying l₀ at start
-  copying_start = record { size = refl; ends = refl; bytes = refl }
 
   pub copying_next : (l : List ℕ) (p i end : ℕ) → Copying l p i → end ≡ min stop (length from) → i < end → (q : ℕ) (m : List ℕ) → Put l p (get_or from i 0) q m → Copying m q (i + 1)
   unfolding put reach
@@ -224,44 +221,6 @@ skips_passed more p s y = rw y refl
 pub skips_else : (more : List ℕ) (p n : ℕ) (s : Bool) → s ≡ false → n ≡ get_or more p 0 → ltb 0 n ≡ step_skips more s p
 unfolding step_skips
 skips_else more p n s y e = rw (y, e) refl
-
--- ---- where nothing changes
-
-pub calm_next : (t : List ℕ) (start i : ℕ) (still after : Bool) → (still ≡ true → Calm t start i) → after ≡ cond (eqb (get_or t i 0) 0) still false → after ≡ true → Calm t start (i + 1)
-calm_next t start i still after c e y x a b = elim (dec_lt x i) [
-  | yes h ↦ c (go (eqb (get_or t i 0) 0) (sym e ∙ y)).1 x a h
-  | no h ↦ let z : x ≡ i = omega arith in rw z (eqb-true (get_or t i 0) 0 (go (eqb (get_or t i 0) 0) (sym e ∙ y)).0)
-]
-  where
-    go : (b : Bool) → cond b still false ≡ true → (b ≡ true) × (still ≡ true)
-    go true w = (refl, w)
-    go false w = absurd (false≢true w)
-
-pub quiet_start : (more held : List ℕ) (start end : ℕ) → Quiet more held start end start
-quiet_start more held start end = record { onward = omega arith; within = omega arith; counts = λ x a b. absurd (omega arith); statements = λ x a b. absurd (omega arith) }
-
-further : (t : List ℕ) (start i j : ℕ) → Calm t start i → Calm t i j → Calm t start j
-further t start i j c d x a b = elim (dec_lt x i) [
-  | yes h ↦ c x a h
-  | no h ↦ d x (omega arith) b
-]
-
-pub quiet_next : (more held : List ℕ) (start end i j : ℕ) → Quiet more held start end i → i ≤ j → j ≤ end → Calm more i j → Calm held i j → Quiet more held start end j
-quiet_next more held start end i j q h g c d = record {
-  onward = let a : start ≤ i = q.onward in omega arith;
-  within = omega arith;
-  counts = further more start i j q.counts c;
-  statements = further held start i j q.statements d;
-}
-
-one_calm : (t : List ℕ) (i : ℕ) → get_or t i 0 ≡ 0 → Calm t i (i + 1)
-one_calm t i e x a b = let z : x ≡ i = omega arith in rw z e
-
-pub quiet_one : (more held : List ℕ) (start end i : ℕ) → Quiet more held start end i → i < end → get_or more i 0 ≡ 0 → get_or held i 0 ≡ 0 → Quiet more held start end (i + 1)
-quiet_one more held start end i q h c d = quiet_next more held start end i (i + 1) q (omega arith) (omega arith) (one_calm more i c) (one_calm held i d)
-
-pub quiet_within : (more held : List ℕ) (start stop end i : ℕ) → Quiet more held start stop i → stop ≤ end → Quiet more held start end i
-quiet_within more held start stop end i q h = record { onward = q.onward; within = let a : i ≤ max start stop = q.within in omega arith; counts = q.counts; statements = q.statements }
 
 -- ---- what is behind the head
 

@@ -72,6 +72,6 @@ refusal_number NotFound = 13
 refusal_number TooLong = 7
 
 -- the length of the joined tree, which the slice holds then; on a refusal the slice holds anything
-abbrev pub Told : List ℕ → List ℕ → ℕ → Result ℕ Refusal → List ℕ → Type 0
-Told bytes list room (Ok n) out = Answered bytes list room 0 n out
-Told bytes list room (Err r) out = outcome bytes list room ≡ refusal (refusal_number r)
+abbrev pub Joins : List ℕ → List ℕ → ℕ → Result ℕ Refusal → List ℕ → Type 0
+Joins bytes list room (Ok n) out = Answered bytes list room 0 n out
+Joins bytes list room (Err r) out = outcome bytes list room ≡ refusal (refusal_number r)

@@ -20,7 +20,7 @@ fn is_container(kind: usize) -> bool
     CONTAINERS.contains(&kind)
 }
 
-// The last of the containers' lists; the item of one that has just begun, else 0.
+// The last of the containers' lists; the item of one that has just begun. 0 is none, since the tables hold both so, in 16 bits.
 #[derive(Clone, Copy)]
 struct Bodies {
     pub latest: usize,
@@ -70,7 +70,7 @@ fn mark(around: &[u16], holds: &mut [u16], before: &mut [u16], begun: usize, dee
     }
 }
 
-// What is found at a position adds, with `deep` frames open before it.
+// What is found at a position adds, with `deep` frames open before it. It is one number, as `look` gives it.
 fn add(
     tree: &[u8],
     around: &mut [u16],

@@ -1,6 +1,6 @@
 // The three slices, and the tables in between.
 ghost use Rattle.std.specs.Prelude.{◌≤◌, length};
-ghost use Rattle.joining.specs.Answer.{Answered, Told};
+ghost use Rattle.joining.specs.Answer.{Answered, Joins};
 ghost use Rattle.joining.specs.Files.{Lent};
 
 use crate::search::Filed;
@@ -23,7 +23,7 @@ fn joined(
     more: &mut [u16],
     held: &mut [u16],
 ) -> Result<usize, Refusal>
-    ensures { Lent frames.old marks.old around.old earlier.old holds.old before.old → 16384 ≤ length ends.old → 32768 ≤ length more.old → 32768 ≤ length held.old → Told tree.now list.now (length out.old) result out.new }
+    ensures { Lent frames.old marks.old around.old earlier.old holds.old before.old → 16384 ≤ length ends.old → 32768 ≤ length more.old → 32768 ≤ length held.old → Joins tree.now list.now (length out.old) result out.new }
 {
     more.fill(0);
     held.fill(0);
