@@ -14,7 +14,9 @@ use Rattle.printer.specs.Text.Cell.{quasi, stop}
 use Rattle.printer.specs.Machine.{Open, cell_at, cells_from, step_over}
 use Rattle.printer.specs.Places.{without, noting, past}
 use Rattle.printer.specs.Stacks.{frame_in, next_in, open_in, packed_frame, opens_in, text_at_of, cell_in_of, held_in, Buffer, write}
-use Rattle.printer.specs.Turns.{start_of, Small}
+use Rattle.printer.specs.Turns.{start_of, counted, Small}
+use Rattle.std.specs.Prelude.{true, false, Option, Some, None, is_some}
+use Rattle.tree.proofs.Sound.{never}
 use Rattle.printer.specs.declared.frame.Frame.{Frame}
 use Rattle.printer.proofs.PiecesWritten.{write_append}
 
@@ -168,6 +170,14 @@ start_some starts count (suc i) n h = rw (lt-ltb i count (omega arith)) (let e :
 pub start_past : (starts : List ℕ) (count next : ℕ) → (next ≡ 0 → ⊥) → count < next → 0 ≡ start_of starts count next
 start_past starts count zero n h = absurd (n refl)
 start_past starts count (suc i) n h = rw (le-ltb i count (omega arith))
+
+pub counted_none : (o : Option ℕ) → is_some o ≡ false → counted o ≡ 0
+counted_none None e = refl
+counted_none (Some p) e = never (sym e)
+
+pub counted_some : (o : Option ℕ) → is_some o ≡ true → counted o ≡ 0 → ⊥
+counted_some None e z = never e
+counted_some (Some p) e z = absurd (omega (arith, z))
 
 cell_by : (tree : List ℕ) (s : ℕ) → s ≡ 0 → cell_in_of tree s ≡ stop
 cell_by tree zero e = refl

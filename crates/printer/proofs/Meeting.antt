@@ -34,6 +34,10 @@ use Rattle.printer.proofs.Logging.{code_of, above_of, entries_of_lem}
 use Rattle.printer.proofs.TextsRead.{text_read}
 use Rattle.printer.proofs.Recording.{same_some, places_to, made_in_of, Went, went_one, Kept, Recording, next_more, next_opened, next_closed, closing_goes, Noted, byte_noted_lem}
 
+by_option : {A : Type 0} (o : Option ℕ) → (o ≡ None → A) → ((k : ℕ) → o ≡ Some k → A) → A
+by_option None f h = f refl
+by_option (Some k) f h = h k refl
+
 -- ---- further on
 
 pub begun_moves : (l fs : List ℕ) (at deep top : ℕ) (r : Cursor) → at + 2 ≤ length l → r ≡ record { at = at + 2; deep = deeper fs deep; top = top } → (r.at ≤ length l) × (at + r.deep < r.at + deep)
@@ -291,7 +295,7 @@ module _ (l fs seen stack log : List ℕ) (c : Cursor) (frames : ℕ) (v : Bool)
         node_code = m.coded n
 
         -- one that is no leaf begins
-        begun_goes : (m.some n).code ≡ 0 → (r' : Cursor) → r ≡ Some r' → Next l fs' seen stack' later r' frames v count
+        begun_goes : (m.some n).code ≡ None → (r' : Cursor) → r ≡ Some r' → Next l fs' seen stack' later r' frames v count
         unfolding folded collect entries_for
         begun_goes z r' u =
             let b = (m.some n).begun z in
@@ -310,12 +314,12 @@ module _ (l fs seen stack log : List ℕ) (c : Cursor) (frames : ℕ) (v : Bool)
               recording = add_opened l fs (set fs c.deep rest) stack log c d count (event_in l (Begins c.at kind map) ∷ []) (went_one l fs (set fs c.deep rest) c d (Begins c.at kind map) o) w log w.kept 1 (kind % 64 + 64 * (map % 256)) 0 (omega arith) y (omega arith) (omega (arith, room)) i refl (omega arith) tt q refl (ap₂ (λ (a b : ℕ). made (length (entries_to l log count) ∷ places_to l log stack c.deep) (entries_to l log count ++ (Entry.node a b 0 ∷ []))) (sym s) (sym t));
             })
 
-        module _ (a : (m.some n).code ≡ 0 → ⊥) (b : (m.some n).code ≡ 13 → ⊥) where
-          abbrev name_leaf : (byte_at l c.at ≡ name_kind (m.some n).code) × (byte_at l (c.at + 1) ≡ 1) × (m.what ≡ one_text) × (9 < (m.some n).code) × ((m.some n).code < 13)
-          name_leaf = (m.some n).leaf.name a b
+        module _ (q : ℕ) (a : (m.some n).code ≡ Some q) (b : q ≡ 13 → ⊥) where
+          abbrev name_leaf : (byte_at l c.at ≡ name_kind q) × (byte_at l (c.at + 1) ≡ 1) × (m.what ≡ one_text) × (9 < q) × (q < 13)
+          name_leaf = (m.some n).leaf.name q a b
 
-          abbrev name_met : MetName l fs fs' log later (m.some n).code (c.at + 2) c.deep rest count r
-          name_met = ((m.some n).name a b).1
+          abbrev name_met : MetName l fs fs' log later q (c.at + 2) c.deep rest count r
+          name_met = ((m.some n).name q a b).1
 
           name_refused : r ≡ None → false ≡ v
           name_refused z = by_same name_met.what 0
@@ -327,7 +331,7 @@ module _ (l fs seen stack log : List ℕ) (c : Cursor) (frames : ℕ) (v : Bool)
               let f : name_met.what ≡ 0 → ⊥ = λ e. none-some r' (sym (name_met.none e) ∙ z) in
               let k : name_met.what % 16 ≡ 3 = name_met.coded f in
               let x : ℕ = name_met.what in
-              let code : ℕ = (m.some n).code in
+              let code : ℕ = q in
               let s = name_met.some f in
               let p : ℕ = (c.at + 2) % 65536 in
               let u : p ≡ c.at + 2 = omega (arith, at_short) in
@@ -336,7 +340,7 @@ module _ (l fs seen stack log : List ℕ) (c : Cursor) (frames : ℕ) (v : Bool)
               let y : bytes_by code ≡ 2 = leaf.name_bytes_lem code name_leaf.3 name_leaf.4 in
               let d : Cursor = record { at = c.at + 2 + 2 + x / 16; deep = c.deep; top = rest } in
               let es : List Event = begins c.at (byte_at l c.at) (byte_at l (c.at + 1)) ∷ Event.text (take (x / 16) (drop (c.at + 2 + 2) l)) ∷ ends ∷ [] in
-              next_as l seen (same_some r' _ (sym z ∙ s.cursor)) s.framed ((m.some n).name a b).0 s.logged (record {
+              next_as l seen (same_some r' _ (sym z ∙ s.cursor)) s.framed ((m.some n).name q a b).0 s.logged (record {
                 reading = leaf.name_done l fs seen c frames v g w.short enough rest left m.what node_in node_code name_leaf.2 x name_met.is k;
                 recording = add_more l fs (set fs c.deep rest) stack log c d count es (leaf.name_went l fs seen c frames v g w.short enough rest left m.what node_in node_code name_leaf.2 x name_met.is k) w log w.kept code p 0 (omega (arith, name_leaf.4)) (omega arith) (omega arith) (omega (arith, room)) i (leaf.name_level code c.deep name_leaf.3 name_leaf.4) (omega (arith, y)) (leaf.name_allowed code p c.deep name_leaf.3 name_leaf.4 (omega (arith, u, at_short))) refl
                     (ap₂ (λ (kind map : ℕ). folded collect (made_in_of l stack log c.deep count) (begins c.at kind map ∷ Event.text (take (x / 16) (drop (c.at + 2 + 2) l)) ∷ ends ∷ [])) name_leaf.0 name_leaf.1
@@ -345,7 +349,7 @@ module _ (l fs seen stack log : List ℕ) (c : Cursor) (frames : ℕ) (v : Bool)
                     ∙ ap (λ (xs : List Entry). made (places_to l log stack c.deep) (entries_to l log count ++ xs)) (sym (leaf.name_for l code p name_leaf.3 name_leaf.4)));
               })
 
-        module _ (z : (m.some n).code ≡ 13) where
+        module _ (z : (m.some n).code ≡ Some 13) where
           abbrev literal_leaf : (byte_at l c.at ≡ 22) × (byte_at l (c.at + 1) ≡ 7) × (m.what ≡ byte_and_texts)
           literal_leaf = (m.some n).leaf.literal z
 
@@ -409,13 +413,15 @@ module _ (l fs seen stack log : List ℕ) (c : Cursor) (frames : ℕ) (v : Bool)
       pub node_refused : r ≡ None → false ≡ v
       node_refused z = by_same m.what 0
           (λ e. task.none_reads l fs seen c frames v g m.what node_in more e)
-          (λ n. by_same (m.some n).code 0
+          (λ n. by_option (m.some n).code
           (λ e. absurd (none-some _ (sym z ∙ ((m.some n).begun e).cursor)))
-          (λ a. by_same (m.some n).code 13 (λ e. literal_refused n e z) (λ b. name_refused n a b z)))
+          (λ k e. by_same k 13 (λ y. literal_refused n (e ∙ ap (λ (x : ℕ). Some x) y) z) (λ b. name_refused n k e b z)))
 
       pub node_goes : (r' : Cursor) → r ≡ Some r' → Next l fs' seen stack' later r' frames v count
       node_goes r' z =
           let n : m.what ≡ 0 → ⊥ = λ e. none-some r' (sym (m.none e) ∙ z) in
-          by_same (m.some n).code 0
+          by_option (m.some n).code
           (λ e. begun_goes n e r' z)
-          (λ a. by_same (m.some n).code 13 (λ e. literal_goes n e (λ y. none-some r' (sym (((m.some n).literal e).1.none y) ∙ z)) r' z) (λ b. name_goes n a b r' z))
+          (λ k e. by_same k 13
+          (λ y. let d : (m.some n).code ≡ Some 13 = e ∙ ap (λ (x : ℕ). Some x) y in literal_goes n d (λ f. none-some r' (sym (((m.some n).literal d).1.none f) ∙ z)) r' z)
+          (λ b. name_goes n k e b r' z))

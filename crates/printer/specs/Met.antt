@@ -24,10 +24,10 @@ byte_and_texts = 11285311585
 abbrev pub name_kind : ℕ → ℕ
 name_kind code = get_or (18 ∷ 19 ∷ 38 ∷ []) (code - 10) 0
 
--- r is the code of a leaf, or 0
-pub record Leafed (kind map what r : ℕ) : Type 0 where
-  pub name : (r ≡ 0 → ⊥) → (r ≡ 13 → ⊥) → (kind ≡ name_kind r) × (map ≡ 1) × (what ≡ one_text) × (9 < r) × (r < 13)
-  pub literal : r ≡ 13 → (kind ≡ 22) × (map ≡ 7) × (what ≡ byte_and_texts)
+-- r is the code of a leaf, if it is one
+pub record Leafed (kind map what : ℕ) (r : Option ℕ) : Type 0 where
+  pub name : (code : ℕ) → r ≡ Some code → (code ≡ 13 → ⊥) → (kind ≡ name_kind code) × (map ≡ 1) × (what ≡ one_text) × (9 < code) × (code < 13)
+  pub literal : r ≡ Some 13 → (kind ≡ 22) × (map ≡ 7) × (what ≡ byte_and_texts)
 
 -- ---- where the tour stands then
 
@@ -89,11 +89,11 @@ MetLiteral tree frames frames' log later at deep rest count r =
 
 -- a node: a leaf by its code, or not
 pub record NodeMet (tree frames frames' stack stack' log later : List ℕ) (at deep rest count what : ℕ) (r : Option Cursor) : Type 0 where
-  pub code : ℕ
+  pub code : Option ℕ
   pub leaf : Leafed (byte_at tree at) (byte_at tree (at + 1)) what code
-  pub begun : code ≡ 0 → Begun frames frames' stack stack' log later count (number_of 1 (byte_at tree at % 64 + 64 * (byte_at tree (at + 1) % 256)) 0) (at + 2) deep rest (what / 16 * 2) r
-  pub name : (code ≡ 0 → ⊥) → (code ≡ 13 → ⊥) → (stack' ≡ stack) × MetName tree frames frames' log later code (at + 2) deep rest count r
-  pub literal : code ≡ 13 → (stack' ≡ stack) × MetLiteral tree frames frames' log later (at + 2) deep rest count r
+  pub begun : code ≡ None → Begun frames frames' stack stack' log later count (number_of 1 (byte_at tree at % 64 + 64 * (byte_at tree (at + 1) % 256)) 0) (at + 2) deep rest (what / 16 * 2) r
+  pub name : (k : ℕ) → code ≡ Some k → (k ≡ 13 → ⊥) → (stack' ≡ stack) × MetName tree frames frames' log later k (at + 2) deep rest count r
+  pub literal : code ≡ Some 13 → (stack' ≡ stack) × MetLiteral tree frames frames' log later (at + 2) deep rest count r
 
 -- a byte goes into the number of its node: at the depth of what is open stands the place of its number
 abbrev pub with_byte : ℕ → ℕ → ℕ

@@ -1,5 +1,5 @@
 -- What a step of the code does, in terms of the pass.
-use Rattle.std.specs.Prelude.{ℕ, zero, suc, ◌+◌, ◌<◌, ◌≤◌, ◌≡◌, List, [], ◌∷◌, ◌++◌, cond, ltb, length, get_or}
+use Rattle.std.specs.Prelude.{ℕ, zero, suc, ◌+◌, ◌<◌, ◌≤◌, ◌≡◌, List, [], ◌∷◌, ◌++◌, cond, ltb, length, get_or, Option, Some, None}
 use Rattle.printer.specs.Text.{Cell, outside}
 use Rattle.printer.specs.Machine.{Printing}
 use Rattle.printer.specs.Stacks.{frame_in, next_in, packed_frame, opens_in, held_in, Buffer, write}
@@ -10,6 +10,11 @@ use Rattle.printer.specs.declared.print.State.{State}
 abbrev pub start_of : List ℕ → ℕ → ℕ → ℕ
 start_of starts count zero = 0
 start_of starts count (suc i) = cond (ltb i count) (get_or starts i 0) 0
+
+-- a position as one more, and none as 0
+abbrev pub counted : Option ℕ → ℕ
+counted None = 0
+counted (Some p) = p + 1
 
 -- the state of the pass that the code has in its arrays; what was written is kept apart
 abbrev pub state_in : List ℕ → List ℕ → List ℕ → State → Printing

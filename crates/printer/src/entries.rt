@@ -14,22 +14,22 @@ pub(crate) fn head(kind: usize, map: usize) -> usize
     1 + 16 * (kind % 64 + 64 * (map % 256))
 }
 
-// The code of a node that is a leaf, or 0.
-pub(crate) fn leaf_code(kind: usize, map: usize, what: usize) -> usize
+// The code of a node, if it is a leaf.
+pub(crate) fn leaf_code(kind: usize, map: usize, what: usize) -> Option<usize>
     ensures { Leafed kind map what result }
 {
     if what == ONE_TEXT && map == 1 {
         return match kind {
-            18 => 10,
-            19 => 11,
-            38 => 12,
-            _ => 0,
+            18 => Some(10),
+            19 => Some(11),
+            38 => Some(12),
+            _ => None,
         };
     }
     if what == BYTE_AND_TEXTS && kind == 22 && map == 7 {
-        13
+        Some(13)
     } else {
-        0
+        None
     }
 }
 

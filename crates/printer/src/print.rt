@@ -7,7 +7,7 @@ ghost use Rattle.printer.specs.Machine.{cell_at, cells_from, step_over, next_aro
 ghost use Rattle.printer.specs.Rows.{sort_numbers, word_numbers};
 ghost use Rattle.printer.specs.Stacks.{frame_in, next_in, packed_frame, text_at_of, held_in, write, buffer_in};
 ghost use Rattle.printer.specs.Entries.{is_leaf_of};
-ghost use Rattle.printer.specs.Turns.{start_of};
+ghost use Rattle.printer.specs.Turns.{start_of, counted};
 
 use crate::{frame, layout, numbers, out, places};
 use tree::bytes;
@@ -22,17 +22,14 @@ pub(crate) struct State {
     pub spot: usize,
 }
 
-// Where the quasi with this place stands, counted from 1; 0 if there is none.
-fn start_of(starts: &[u16], count: usize, next: usize) -> usize
-    ensures { result ≡ start_of starts.now count next }
+// Where the quasi with this place stands, if one does: its position is kept as one more, and a stop as 0.
+fn start_of(starts: &[u16], count: usize, next: usize) -> Option<usize>
+    ensures { counted result ≡ start_of starts.now count next }
 {
-    if next == 0 {
-        return 0;
+    if next == 0 || count < next {
+        return None;
     }
-    if next <= count {
-        return numbers::short_at(starts, next - 1);
-    }
-    0
+    numbers::short_at(starts, next - 1).checked_sub(1)
 }
 
 // The text whose length stands at a position.
@@ -54,11 +51,10 @@ fn quasi(
 ) -> usize
     ensures { buffer_in text.new result ≡ write (buffer_in text.old spot) (cell_text (cell_at (held_in tree.now starts.now count) next)) }
 {
-    let start = start_of(starts, count, next);
-    if start == 0 {
-        return spot;
+    match start_of(starts, count, next) {
+        Some(at) => text_at(tree, at, text, spot),
+        None => spot,
     }
-    text_at(tree, start - 1, text, spot)
 }
 
 // The next quasi, in a list of expressions.
@@ -82,7 +78,7 @@ fn quasi_in(
 fn step_over(starts: &[u16], count: usize, next: usize) -> usize
     ensures { ((tree : List ℕ) → count < 65536 → result ≡ step_over (cell_at (held_in tree starts.now count) next) next) × (count < 65536 → next < 16777216 → result < 16777216) }
 {
-    if start_of(starts, count, next) == 0 {
+    if start_of(starts, count, next).is_none() {
         return next;
     }
     if count < 65536 && next <= count {

@@ -95,16 +95,15 @@ fn node_met(
     }
     let kind = bytes::peek(tree, at);
     let map = bytes::peek(tree, at + 1);
-    let code = entries::leaf_code(kind, map, what);
-    if code == 13 {
-        return literal_met(tree, frames, log, at + 2, deep, rest, count);
+    match entries::leaf_code(kind, map, what) {
+        Some(13) => literal_met(tree, frames, log, at + 2, deep, rest, count),
+        Some(code) => name_met(tree, frames, log, at + 2, deep, rest, count, code),
+        None => {
+            numbers::keep_entry(log, count, entries::head(kind, map));
+            numbers::keep_short(stack, deep, count);
+            Some(next::begun(frames, at + 2, deep, rest, what / 16 * 2))
+        }
     }
-    if 0 < code {
-        return name_met(tree, frames, log, at + 2, deep, rest, count, code);
-    }
-    numbers::keep_entry(log, count, entries::head(kind, map));
-    numbers::keep_short(stack, deep, count);
-    Some(next::begun(frames, at + 2, deep, rest, what / 16 * 2))
 }
 
 fn list_met(
