@@ -107,7 +107,7 @@ fn literal_by(tree: &[u8], s: Option<Spelling>, spelling: Option<Part>, form: Op
     }
 }
 
-// The sort of the literal at a position.
+// The sort of the literal at a position: a byte of the tree, 0 where there is none.
 fn literal_sort(tree: &[u8], left: usize, at: usize) -> usize
     ensures { byte_at tree.now at ≡ 22 → result ≡ number_at 0 (look_node tree.now left at).value }
 {

@@ -72,7 +72,7 @@ pub(crate) fn spelled(text: &[u8]) -> Option<Spelling>
     Some(Spelling::Decimal(decimal))
 }
 
-// The digits of a value: the bytes of the array from a place on.
+// The digits of a value: the bytes of the array from a place on. They are made from the last to the first, without a heap.
 #[derive(Clone, Copy)]
 pub struct Digits {
     pub bytes: [u8; 20],
@@ -85,6 +85,7 @@ pub fn digits_of(v: usize) -> Digits
     let mut bytes = [0; 20];
     let mut n = v;
     let mut i = 19;
+    // It ends by the value: how many digits there are is not known before.
     while 9 < n {
         bytes[i] = (48 + n % 10) as u8;
         n /= 10;

@@ -7,7 +7,8 @@ ghost use Rattle.pattern.specs.Parts.{part_values, field_values, sort_at, text_o
 
 use tree::{bytes, grammar, kinds, skip};
 
-// A node's position with the levels for it. Where there is no node there are no levels.
+// A node's position with the levels for it. Where there is no node there are no levels: no Option, since what is asked of a
+// place is answered without levels too.
 #[derive(Clone, Copy)]
 pub struct Place {
     pub left: usize,
