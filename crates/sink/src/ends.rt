@@ -20,13 +20,7 @@ pub fn begin(out: &mut [u8], list: &mut [u8], work: &mut [u8], mark: usize) -> S
         declarators: 0,
         next: 1,
         mark,
-        helpers: Helpers {
-            spread: false,
-            extends: false,
-            empty: false,
-            without: false,
-            key: false,
-        },
+        helpers: Helpers::default(),
     }
 }
 

@@ -10,7 +10,7 @@ pub mod mask;
 pub mod tree;
 
 // Which helpers the tree uses.
-#[derive(Clone, Copy)]
+#[derive(Clone, Copy, Default)]
 pub struct Helpers {
     pub spread: bool,
     pub extends: bool,
