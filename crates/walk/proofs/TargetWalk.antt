@@ -3,7 +3,7 @@
 use mathlib.Core.Path.{◌≡◌, refl, sym, ap, ◌∙◌, subst}
 use mathlib.Core.Bool.{Bool, true, false, cond}
 use mathlib.Core.List.{List, [], ◌∷◌}
-use Prim.Native.Nat.{ℕ, zero, suc, ◌-◌, ◌/◌, ◌%◌, ◌≤◌, ◌<◌}
+use Prim.Native.Nat.{ℕ, suc, ◌-◌, ◌/◌, ◌%◌, ◌≤◌, ◌<◌}
 use native.Mathlib.Omega.{arith}
 use lib.Dec.{eqb}
 use borrow.Author.Tests.{ne_eqb}
@@ -29,8 +29,7 @@ use Rattle.walk.specs.Run.{Going, Does}
 use Rattle.walk.specs.Whole.{hole_at, Good}
 use Rattle.walk.specs.Turns.{reach_of}
 use Rattle.walk.proofs.Running.{does_nothing, does_as}
-use Rattle.walk.proofs.Emits.{good_item, full}
-use Rattle.walk.proofs.Opened.{no_good, kind_byte, leaf_here, object_open, array_open, property_open, default_open}
+use Rattle.walk.proofs.Opened.{kind_byte, leaf_here, object_open, array_open, property_open, default_open}
 use Rattle.walk.proofs.Hands.{Left, left_start, left_end, left_more, solid_more, Any, any_start, at_level}
 use Rattle.walk.proofs.HandKeys.{object_listed}
 
