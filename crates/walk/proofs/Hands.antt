@@ -27,7 +27,7 @@ use Rattle.direct.proofs.Threads.{say_nothing}
 use Rattle.direct.proofs.ObjectsByLevel.{Keyed, over_object, over_keyed, over_taken, over_array, over_default, over_leaf}
 use Rattle.direct.proofs.HandedByObject.{place_keyed, keys_keyed, excludes_keyed}
 use Rattle.walk.specs.declared.views.View as views
-use Rattle.walk.specs.declared.views.View.TheVariants.{Replacing, Taking}
+use Rattle.walk.specs.declared.views.View.TheVariants.{Replacing}
 use Rattle.walk.specs.declared.hand.Own.{Own}
 use Rattle.walk.specs.declared.hand.Own.TheVariants as own
 use Rattle.walk.specs.Run.{Going, Does}

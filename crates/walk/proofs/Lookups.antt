@@ -32,18 +32,12 @@ use Rattle.pattern.proofs.MovesCounted.{count_sum}
 use Rattle.pattern.proofs.KeyCases.{sort_name}
 use Rattle.direct.specs.Events.{cell}
 use Rattle.direct.specs.Views.{is_other}
-use Rattle.direct.specs.Objects.{enters}
 use Rattle.direct.specs.Keys.{primitives, hoists}
 use Rattle.direct.specs.Moved.{number}
 use Rattle.direct.proofs.MovedMade.{number_join}
-use Rattle.walk.specs.declared.modes.Deep.{Deep}
-use Rattle.walk.specs.declared.modes.Deep.TheVariants.{Found, Reached}
-use Rattle.walk.specs.declared.modes.Mode.TheVariants as modes
-use Rattle.walk.specs.declared.reaches.Reach as reaches
-use Rattle.walk.specs.declared.reaches.Reach.TheVariants.{Anywhere}
 use Rattle.walk.specs.declared.look.KeyClass.{KeyClass}
 use Rattle.walk.specs.declared.look.KeyClass.TheVariants.{AsString, AsItStands, LeftOut, AsTemporary}
-use Rattle.walk.specs.Turns.{class_entry, start_of, cell_at, reach_of, item_mode, enters_arrays}
+use Rattle.walk.specs.Turns.{class_entry, start_of, cell_at}
 use Rattle.lowering.proofs.ItemLaws.{count_append}
 use Rattle.lowering.proofs.Cases.{by_shape}
 use Rattle.lowering.specs.Keys.Entry.{spelt, itself, omitted, saved}

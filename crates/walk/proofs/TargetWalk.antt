@@ -3,7 +3,7 @@
 use mathlib.Core.Path.{◌≡◌, refl, sym, ap, ◌∙◌, subst}
 use mathlib.Core.Bool.{Bool, true, false, cond}
 use mathlib.Core.List.{List, [], ◌∷◌}
-use Prim.Native.Nat.{ℕ, zero, suc, ◌-◌, ◌/◌, ◌%◌, ◌≤◌, ◌<◌}
+use Prim.Native.Nat.{ℕ, suc, ◌-◌, ◌/◌, ◌%◌, ◌≤◌, ◌<◌}
 use native.Mathlib.Omega.{arith}
 use lib.Dec.{eqb}
 use borrow.Author.Tests.{ne_eqb}
@@ -29,8 +29,7 @@ use Rattle.walk.specs.Run.{Going, Does}
 use Rattle.walk.specs.Whole.{hole_at, Good}
 use Rattle.walk.specs.Turns.{reach_of}
 use Rattle.walk.proofs.Running.{does_nothing, does_as}
-use Rattle.walk.proofs.Emits.{good_item, full}
-use Rattle.walk.proofs.Opened.{no_good, kind_byte, leaf_here, object_open, array_open, property_open, default_open}
+use Rattle.walk.proofs.Opened.{kind_byte, leaf_here, object_open, array_open, property_open, default_open}
 use Rattle.walk.proofs.Hands.{Left, left_start, left_end, left_more, solid_more, Any, any_start, at_level}
 use Rattle.walk.proofs.HandKeys.{object_listed}
 
@@ -103,24 +102,13 @@ module _ (t : List ℕ) where
         let o = object_open t left at good kind in
         sym (reach_over_object hands_place (reach_of reach) at _) ∙ ap (λ (s : Seen Node). Found reach s.value) (sym (o.plain (sym e ∙ h)))
 
-    pub values_end : {g₀ g : Going} (n p : ℕ) (b : Bool) → b ≡ eqb (byte_at t (onward t at 1) / 2 % 2) 1 → b ≡ false → n ≤ 0 → Values g₀ g n p
-        → Good t (suc left) at → byte_at t at ≡ 34 → Does g₀ g (Found reach object)
-    values_end n p b e h z v good kind =
-        does_as (left_end t left false Property (λ q. Found reach (value q)) (many at) (first at) n p z (v good kind)) (object_is b e h good kind)
-
-    -- no levels are left for them, so there are none
-    pub object_bare : {g : Going} (b : Bool) → b ≡ eqb (byte_at t (onward t at 1) / 2 % 2) 1 → b ≡ false → left ≡ 0 → Good t (suc left) at → byte_at t at ≡ 34 → Does g g (Found reach object)
-    object_bare {g = g} b e h z good kind =
+    -- without a rest it is its values
+    pub object_plain : {g₀ g : Going} (b : Bool) → b ≡ eqb (byte_at t (onward t at 1) / 2 % 2) 1 → b ≡ false
+        → (Good t (suc left) at → byte_at t at ≡ 34 → Does g₀ g (in_turn (λ q. Found reach (value q)) (properties object))) → Good t (suc left) at → byte_at t at ≡ 34 → Does g₀ g (Found reach object)
+    unfolding items_at_of piece_in
+    object_plain b e h k good kind =
         let o = object_open t left at good kind in
-        let l = left_start t left false Property (λ q. Found reach (value q)) g (many at) (first at) o.list.good o.properties in
-        does_as (go (many at) refl l) (object_is b e h good kind)
-      where
-        go : (n : ℕ) → many at ≡ n → Left t left false Property (λ q. Found reach (value q)) g (many at) (first at) g (many at) (first at)
-            → Does g g (in_turn (λ q. Found reach (value q)) (look_items t (look_node t left) false (many at) (first at)).value)
-        go zero y l = left_end t left false Property (λ q. Found reach (value q)) (many at) (first at) (many at) (first at) (omega arith) l
-        go (suc n) y l =
-            let i = good_item t (look_node t left) (Good t left) false false (many at) (first at) (omega arith) l.good in
-            no_good t (first at) (subst (λ (m : ℕ). Good t m (first at)) z (i.node (full t false (first at) refl)))
+        does_as (k good kind) (ap (λ (s : Seen Node). in_turn (λ q. Found reach (value q)) (properties s.value)) (o.plain (sym e ∙ h)) ∙ object_is b e h good kind)
 
   -- the values alone, of an object at the level `left`
   pub values_all : {g₀ g : Going} (left d at : ℕ) (reach : reaches.Reach) (n p : ℕ) → d ≡ left - 1 → n ≤ 0 → Values d at reach g₀ g n p
@@ -134,6 +122,12 @@ module _ (t : List ℕ) where
       by_test (eqb (byte_at t (onward t at 1) / 2 % 2) 1)
       (λ bit. does_as done (ap (λ (s : Seen Node). in_turn (λ q. Found reach (value q)) (properties s.value)) (sym (o.resting bit))))
       (λ bit. does_as done (ap (λ (s : Seen Node). in_turn (λ q. Found reach (value q)) (properties s.value)) (sym (o.plain bit)))))
+
+  pub values_of : {g₀ g : Going} (left d at : ℕ) (reach : reaches.Reach) → d ≡ left - 1
+      → (Good t (suc d) at → byte_at t at ≡ 34 → Does g₀ g (in_turn (λ q. Found reach (value q)) (properties (look_node t (suc d) at).value)))
+      → Good t left at → byte_at t at ≡ 34 → Does g₀ g (in_turn (λ q. Found reach (value q)) (properties (look_node t left at).value))
+  values_of {g₀ = g₀} {g = g} left d at reach e k good kind =
+      at_level t (λ (m : ℕ). Does g₀ g (in_turn (λ q. Found reach (value q)) (properties (look_node t m at).value))) left d at e good (λ here. k here kind)
 
   -- ---- a property that stands a level above `left`
 

@@ -20,14 +20,13 @@ ghost use Rattle.walk.specs.Turns.{view_of, suits, AllSuit, places_at, top_at, o
 ghost use Rattle.walk.specs.declared.modes.Mode.TheVariants.{Binding};
 ghost use Rattle.walk.specs.declared.views.View.TheVariants.{Replacing, Taking};
 
-use crate::look;
 use crate::look::{cell, has_second, hoisted, is_other};
 use crate::place::less;
 use crate::reaches::Reach;
 use crate::target::{object_count, target_count, target_item, target_values};
 use crate::views::View;
 use crate::walk::Walk;
-use crate::{kinds, stems, written};
+use crate::{kinds, look, stems, written};
 use pattern::declarators::is_lowered;
 use pattern::keys::{Key, excluded_keys, key_temporaries, transform_property_key};
 use pattern::search::has_nested_object_rest;
@@ -490,16 +489,7 @@ pub fn declaration_hands(
     let n = wide_at(t, q);
     let first = step(t, q, 2);
     let u = declarators(w, t, list, work, below, first, n, Declared::Made);
-    declarators(
-        u,
-        t,
-        list,
-        work,
-        below,
-        first,
-        n,
-        Declared::Excluded(root),
-    )
+    declarators(u, t, list, work, below, first, n, Declared::Excluded(root))
 }
 
 fn declarators(

@@ -112,14 +112,29 @@ pub(crate) fn target_values(
 ) -> Walk
     ensures { (result.at ≡ w.at) × ((o : List ℕ) → Good t.now left at → byte_at t.now at ≡ 34 → Does (going_of o list.old work.old w) (going_of o list.new work.new result) (in_turn (λ q. over_reached hands_place (reach_of reach) (value q)) (properties (look_node t.now left at).value))) }
 {
-    let below = less(left);
+    target_properties(w, t, list, work, less(left), at, reach)
+}
+
+// Below the values of the object at a position, whose properties stand at the level `left`.
+#[cycle(target_item_target_object_target_property)]
+fn target_properties(
+    w: Walk,
+    t: &[u8],
+    list: &mut [u8],
+    work: &mut [u8],
+    left: usize,
+    at: usize,
+    reach: Reach,
+) -> Walk
+    ensures { (result.at ≡ w.at) × ((o : List ℕ) → Good t.now (suc left) at → byte_at t.now at ≡ 34 → Does (going_of o list.old work.old w) (going_of o list.new work.new result) (in_turn (λ q. over_reached hands_place (reach_of reach) (value q)) (properties (look_node t.now (suc left) at).value))) }
+{
     let q = step(t, at, 2);
     let mut u = w;
     let n = wide_at(t, q);
     let mut p = step(t, q, 2);
     for _ in 0..n {
-        u = target_property(u, t, list, work, less(below), p, reach);
-        p = skip(t, below, p);
+        u = target_property(u, t, list, work, less(left), p, reach);
+        p = skip(t, left, p);
     }
     u
 }
@@ -145,18 +160,7 @@ fn target_object(
             .listed2(list, written::DECLARATOR, written::FIRST)
             .listed_temporary(list, work, at, stems::PLACE);
     }
-    if left == 0 {
-        return w;
-    }
-    let q = step(t, at, 2);
-    let mut u = w;
-    let n = wide_at(t, q);
-    let mut p = step(t, q, 2);
-    for _ in 0..n {
-        u = target_property(u, t, list, work, left - 1, p, reach);
-        p = skip(t, left, p);
-    }
-    u
+    target_properties(w, t, list, work, left, at, reach)
 }
 
 // A property that stands at a level above `left`: what is below its value. In a quiet one there is nothing.

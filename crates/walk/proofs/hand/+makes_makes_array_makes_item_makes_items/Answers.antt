@@ -13,10 +13,13 @@ pub makes-returns-then-left-eq0 : goal.makes-returns-then-left-eq0
 makes-returns-then-left-eq0 t c = (refl, λ o l g. good_none _ _ _ c.if-left-eq0.true g)
 
 pub makes-returns-in-34 : goal.makes-returns-in-34
-makes-returns-in-34 t c = (c.make.ensures.1, λ o l g. elim c.in-34.is [
-  | inl e ↦ law.makes_34 _ _ _ _ c.peek-kind.ensures.value e (runs_does (c.make.ensures.0 o l)) g
-  | inr e ↦ law.makes_37 _ _ _ _ c.peek-kind.ensures.value e (runs_does (c.make.ensures.0 o l)) g
-])
+makes-returns-in-34 t c = (
+  c.make.ensures.1,
+  λ o l g. elim c.in-34.is [
+    | inl e ↦ law.makes_34 _ _ _ _ c.peek-kind.ensures.value e (runs_does (c.make.ensures.0 o l)) g
+    | inr e ↦ law.makes_37 _ _ _ _ c.peek-kind.ensures.value e (runs_does (c.make.ensures.0 o l)) g
+  ],
+)
 
 pub makes-returns-in-36 : goal.makes-returns-in-36
 makes-returns-in-36 t c = (c.makes_array.ensures.0, λ o l g. c.makes_array.ensures.1 o l g (sym c.peek-kind.ensures.value ∙ c.in-36.is))

@@ -1,4 +1,3 @@
-use mathlib.Core.Path.{refl, ◌∙◌}
 use Rattle.walk.proofs.Lookups.{not_yes, not_no}
 use Rattle.walk.proofs.hand.replaces.Goals as goal
 

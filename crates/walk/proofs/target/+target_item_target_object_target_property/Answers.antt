@@ -51,25 +51,22 @@ target_object-returns-then-not-counts t c = (refl, λ o g k. law.object_passed _
 pub target_object-returns-then-has_second : goal.target_object-returns-then-has_second
 target_object-returns-then-has_second t c = (c.listed_temporary.ensures.1 ∙ c.listed2.ensures.1, λ o g k. law.object_found _ _ _ _ _ c.has_second.ensures c.if-has_second.true (undenied _ _ c.counts.ensures c.if-not-counts.false) (runs_does (c.listed2.ensures.0 o _)) (runs_does (c.listed_temporary.ensures.0 o)) g k)
 
-pub target_object-returns-then-left-eq0 : goal.target_object-returns-then-left-eq0
-target_object-returns-then-left-eq0 t c = (refl, λ o g k. law.object_bare _ _ _ _ _ c.has_second.ensures c.if-has_second.false c.if-left-eq0.true g k)
+pub target_object-returns : goal.target_object-returns
+target_object-returns t c = (c.target_properties.ensures.0, λ o g k. law.object_plain _ _ _ _ _ c.has_second.ensures c.if-has_second.false (c.target_properties.ensures.1 o) g k)
 
-pub target_object-loop-init : goal.target_object-loop-init
-target_object-loop-init t c = (refl, refl, refl, λ o. rw none_gone (law.values_start _ _ _ _ _ _ _ c.step-q.ensures c.wide_at-n.ensures c.step-p.ensures))
+pub target_properties-loop-init : goal.target_properties-loop-init
+target_properties-loop-init t c = (refl, refl, refl, λ o. rw none_gone (law.values_start _ _ _ _ _ _ _ c.step-q.ensures c.wide_at-n.ensures c.step-p.ensures))
 
-pub target_object-overflow_sub-left : goal.target_object-overflow_sub-left
-target_object-overflow_sub-left t c = omega (arith, c.if-left-eq0.false)
-
-pub target_object-loop-preserved : goal.target_object-loop-preserved
-target_object-loop-preserved t c = (
+pub target_properties-loop-preserved : goal.target_properties-loop-preserved
+target_properties-loop-preserved t c = (
   omega (arith, c.loop.invariant.0, c.target_property-u.auto.list),
   omega (arith, c.loop.invariant.1, c.target_property-u.auto.work),
   c.target_property-u.ensures.0 ∙ c.loop.invariant.2,
-  λ o. rw one_gone (law.values_more _ _ _ _ _ _ _ _ (omega (arith, c.loop-test.true)) c.skip-p.ensures refl (c.loop.invariant.3 o) (c.target_property-u.ensures.1 o)),
+  λ o. rw one_gone (law.values_more _ _ _ _ _ _ _ _ (omega (arith, c.loop-test.true)) c.skip-p.ensures c.less.ensures (c.loop.invariant.3 o) (c.target_property-u.ensures.1 o)),
 )
 
-pub target_object-returns : goal.target_object-returns
-target_object-returns t c = (c.loop.invariant.2, λ o g k. law.values_end _ _ _ _ _ _ _ c.has_second.ensures c.if-has_second.false (omega (arith, c.loop-test.false)) (c.loop.invariant.3 o) g k)
+pub target_properties-returns : goal.target_properties-returns
+target_properties-returns t c = (c.loop.invariant.2, λ o g k. law.values_all _ _ _ _ _ _ _ (omega arith) (omega (arith, c.loop-test.false)) (c.loop.invariant.3 o) g k)
 
 pub target_property-returns-then-quiet : goal.target_property-returns-then-quiet
 target_property-returns-then-quiet t c = (refl, λ o g k. quiets.reach_quiet _ _ _ _ _ _ c.quiet.ensures c.if-quiet.true g)
