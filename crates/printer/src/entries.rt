@@ -1,4 +1,4 @@
-// What is kept of a tree, as numbers in a list. The last four binary digits are a code: those of `look` for a node, a list, a text,
+// What is kept of a tree, as numbers in a list: four bytes each, in fixed memory. The last four binary digits are a code: those of `look` for a node, a list, a text,
 // a number and a hole, 4 for a mark or a byte, 8 the end of a node, 9 the end of a list, and 10 to 13 a leaf from its begin to its
 // end. In the sixteen digits above it stands a node's kind and bit map, a list's count, a number, or the position of a text or of a
 // leaf's first text; above those the node's byte.
@@ -7,11 +7,35 @@ ghost use Rattle.printer.specs.Met.{number_of, Leafed};
 
 use rewritten::task::{BYTE_AND_TEXTS, ONE_TEXT};
 
+pub(crate) const NODE: usize = 1;
+
+pub(crate) const LIST: usize = 2;
+
+pub(crate) const TEXT: usize = 3;
+
+pub(crate) const QUIET: usize = 4;
+
+pub(crate) const NUMBER: usize = 6;
+
+pub(crate) const HOLE: usize = 7;
+
+pub(crate) const NODE_ENDS: usize = 8;
+
+pub(crate) const LIST_ENDS: usize = 9;
+
+pub(crate) const REFERENCE: usize = 10;
+
+pub(crate) const BINDING: usize = 11;
+
+pub(crate) const STATIC_KEY: usize = 12;
+
+pub(crate) const LITERAL: usize = 13;
+
 // A node's, with no byte yet.
 pub(crate) fn head(kind: usize, map: usize) -> usize
     ensures { result ≡ number_of 1 (kind % 64 + 64 * (map % 256)) 0 }
 {
-    1 + 16 * (kind % 64 + 64 * (map % 256))
+    NODE + 16 * (kind % 64 + 64 * (map % 256))
 }
 
 // The code of a node, if it is a leaf.
@@ -20,14 +44,14 @@ pub(crate) fn leaf_code(kind: usize, map: usize, what: usize) -> Option<usize>
 {
     if what == ONE_TEXT && map == 1 {
         return match kind {
-            18 => Some(10),
-            19 => Some(11),
-            38 => Some(12),
+            18 => Some(REFERENCE),
+            19 => Some(BINDING),
+            38 => Some(STATIC_KEY),
             _ => None,
         };
     }
     if what == BYTE_AND_TEXTS && kind == 22 && map == 7 {
-        Some(13)
+        Some(LITERAL)
     } else {
         None
     }
@@ -44,14 +68,14 @@ pub(crate) fn plain(code: usize, n: usize) -> usize
 pub(crate) fn literal(p: usize, b: usize) -> usize
     ensures { result ≡ number_of 13 (p % 65536) (b % 256) }
 {
-    13 + 16 * (p % 65536 + 65536 * (b % 256))
+    LITERAL + 16 * (p % 65536 + 65536 * (b % 256))
 }
 
 // That of the end of a task.
 pub(crate) fn closing(top: usize) -> usize
     ensures { result ≡ cond (eqb (top % 2) 0) 8 9 }
 {
-    if top % 2 == 0 { 8 } else { 9 }
+    if top % 2 == 0 { NODE_ENDS } else { LIST_ENDS }
 }
 
 // The byte of a node goes into its number.

@@ -7,6 +7,31 @@ ghost use Rattle.printer.specs.Stacks.{frame_in};
 
 use crate::{frame, numbers};
 
+// The manners of fields that print more than their words: numbers, since the table of fields holds them.
+pub(crate) const LINES: usize = 1;
+
+pub(crate) const DIRECTIVES: usize = 2;
+
+pub(crate) const CAUGHT: usize = 3;
+
+pub(crate) const CLOSED: usize = 4;
+
+pub(crate) const KEYED: usize = 5;
+
+pub(crate) const FILLED: usize = 6;
+
+pub(crate) const CALLED: usize = 7;
+
+pub(crate) const LOOPED: usize = 8;
+
+pub(crate) const HEADED: usize = 9;
+
+pub(crate) const QUOTED: usize = 10;
+
+pub(crate) const PARTED: usize = 11;
+
+pub(crate) const VALUED: usize = 12;
+
 // Of each kind: head, tail and end of the list, seven binary digits each; whether it is a statement, and whether it stands in
 // parentheses. For a Function its byte tells that: from 64 on it stands again, with byte 0, 1, 2 and any other.
 const SORTS: [u32; 68] = [

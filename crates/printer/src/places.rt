@@ -6,6 +6,10 @@ ghost use Rattle.printer.specs.Stacks.{frame_in, next_in, packed_frame};
 ghost use Rattle.printer.specs.Places.{field_in, manner_in, is_statement, in_method_form, wrapping, separator, leading, joining, following, Plain, noted_at, computed, around, is_quasis, is_filled, leaves, trailing};
 ghost use Rattle.printer.specs.declared.frame.Frame.{Frame};
 
+use crate::layout::{
+    CALLED, CAUGHT, CLOSED, DIRECTIVES, FILLED, HEADED, KEYED, LINES, LOOPED, PARTED, QUOTED,
+    VALUED,
+};
 use crate::{frame, layout};
 
 // What leads the next field, and 128 times its manner; right if the table is lent.
@@ -22,12 +26,12 @@ pub(crate) fn is_statement(sort: usize) -> bool
     sort / 2097152 % 2 == 1
 }
 
-// 1 in method form, else 0; m is the manner.
+// 1 in method form, else 0; m is the manner. A number, since words are counted on from it.
 #[tactic(auto, unfolding(crate::specs::Places::in_method_form))]
 pub(crate) fn method(p: usize, m: usize, kind: usize, map: usize) -> usize
     ensures { m ≡ manner_in (frame_in p) → result ≡ in_method_form (frame_in p) kind map }
 {
-    if m == 12 && kind == 14 && map / 4 % 2 == 0 && 3 < frame::note_in(p) {
+    if m == VALUED && kind == 14 && map / 4 % 2 == 0 && 3 < frame::note_in(p) {
         1
     } else {
         0
@@ -47,7 +51,7 @@ pub(crate) fn wraps(method: usize, sort: usize) -> bool
 pub(crate) fn is_parted(p: usize, m: usize) -> bool
     ensures { m ≡ manner_in (frame_in p) → separator (frame_in p) ≡ cond result 70 0 }
 {
-    0 < frame::seen_in(p) && (m == 7 || m == 11)
+    0 < frame::seen_in(p) && (m == CALLED || m == PARTED)
 }
 
 // What parts an item from the one before.
@@ -72,9 +76,9 @@ pub(crate) fn joining(m: usize, kind: usize, statement: bool) -> usize
     ensures { (p : ℕ) (note : ℕ) → m ≡ manner_in (frame_in p) → statement ≡ is_statement kind note → result ≡ joining (frame_in p) kind note }
 {
     match m {
-        6 => 74,
-        7 => { if statement { 52 } else { 0 } }
-        8 => { if kind == 2 { 71 } else { 52 } }
+        FILLED => 74,
+        CALLED => { if statement { 52 } else { 0 } }
+        LOOPED => { if kind == 2 { 71 } else { 52 } }
         _ => 0,
     }
 }
@@ -85,13 +89,13 @@ fn trail(p: usize, m: usize, statement: bool) -> usize
     ensures { (m ≡ manner_in (frame_in p) → result ≡ trailing (frame_in p) statement) × (result ≤ 62) }
 {
     match m {
-        1 => 52,
-        2 => 54,
-        3 => 56,
-        4 => 58,
-        5 => { if frame::note_in(p) % 2 == 0 { 50 } else { 60 } }
-        6 => 62,
-        7 => { if statement { 52 } else { 50 } }
+        LINES => 52,
+        DIRECTIVES => 54,
+        CAUGHT => 56,
+        CLOSED => 58,
+        KEYED => { if frame::note_in(p) % 2 == 0 { 50 } else { 60 } }
+        FILLED => 62,
+        CALLED => { if statement { 52 } else { 50 } }
         _ => 50,
     }
 }
@@ -133,8 +137,8 @@ pub(crate) fn noted_at(m: usize, kind: usize) -> usize
     ensures { ((p : ℕ) → m ≡ manner_in (frame_in p) → result ≡ noted_at (frame_in p) kind) × (result ≤ 2) }
 {
     match m {
-        9 => { if kind == 4 { 1 } else { 0 } }
-        10 => 2,
+        HEADED => { if kind == 4 { 1 } else { 0 } }
+        QUOTED => 2,
         _ => 0,
     }
 }
@@ -177,19 +181,19 @@ pub(crate) fn around(p: usize, method: usize) -> usize
 pub(crate) fn is_quasis(m: usize) -> bool
     ensures { (l : ℕ) → m ≡ manner_in (frame_in l) → result ≡ is_quasis (frame_in l) }
 {
-    m == 10
+    m == QUOTED
 }
 
 #[tactic(auto, unfolding(crate::specs::Places::is_filled))]
 pub(crate) fn is_filled(l: usize, m: usize) -> bool
     ensures { m ≡ manner_in (frame_in l) → result ≡ is_filled (frame_in l) }
 {
-    m == 6 && frame::list_in(l) == 1
+    m == FILLED && frame::list_in(l) == 1
 }
 
 #[tactic(auto, unfolding(crate::specs::Places::leaves))]
 pub(crate) fn leaves(l: usize, m: usize) -> bool
     ensures { m ≡ manner_in (frame_in l) → result ≡ leaves (frame_in l) }
 {
-    m == 6 || m == 10 && frame::map_in(l) / 2 % 2 == 0
+    m == FILLED || m == QUOTED && frame::map_in(l) / 2 % 2 == 0
 }

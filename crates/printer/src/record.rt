@@ -96,7 +96,7 @@ fn node_met(
     let kind = bytes::peek(tree, at);
     let map = bytes::peek(tree, at + 1);
     match entries::leaf_code(kind, map, what) {
-        Some(13) => literal_met(tree, frames, log, at + 2, deep, rest, count),
+        Some(entries::LITERAL) => literal_met(tree, frames, log, at + 2, deep, rest, count),
         Some(code) => name_met(tree, frames, log, at + 2, deep, rest, count, code),
         None => {
             numbers::keep_entry(log, count, entries::head(kind, map));
@@ -124,7 +124,7 @@ fn list_met(
     if what == 0 {
         return None;
     }
-    numbers::keep_entry(log, count, entries::plain(2, what / 1024));
+    numbers::keep_entry(log, count, entries::plain(entries::LIST, what / 1024));
     numbers::keep_short(stack, deep, count);
     Some(next::begun(frames, at + 2, deep, rest, what / 16 * 2 + 1))
 }
@@ -143,7 +143,7 @@ fn text_met(
     if what == 0 {
         return None;
     }
-    numbers::keep_entry(log, count, entries::plain(3, at));
+    numbers::keep_entry(log, count, entries::plain(entries::TEXT, at));
     Some(Cursor {
         at: at + 2 + what / 16,
         deep,
@@ -165,7 +165,7 @@ fn number_met(
     if what == 0 {
         return None;
     }
-    numbers::keep_entry(log, count, entries::plain(6, what / 16));
+    numbers::keep_entry(log, count, entries::plain(entries::NUMBER, what / 16));
     Some(Cursor {
         at: at + 2,
         deep,
@@ -190,7 +190,7 @@ fn mark_met(
     }
     if seen::is_new_ahead(seen, what) {
         seen::note_ahead(seen, what);
-        numbers::keep_entry(log, count, 4);
+        numbers::keep_entry(log, count, entries::QUIET);
         return Some(Cursor {
             at: at + 2,
             deep,
@@ -227,7 +227,7 @@ fn byte_met(
         return None;
     }
     note_open(stack, log, deep, what / 16);
-    numbers::keep_entry(log, count, 4);
+    numbers::keep_entry(log, count, entries::QUIET);
     Some(Cursor {
         at: at + 1,
         deep,
@@ -279,7 +279,7 @@ pub(crate) fn record(
             continue;
         }
         if top % 2 == 1 {
-            numbers::keep_entry(log, count, 7);
+            numbers::keep_entry(log, count, entries::HOLE);
             cursor = Cursor {
                 at: at + 1,
                 deep,

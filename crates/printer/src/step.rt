@@ -11,7 +11,7 @@ ghost use Rattle.printer.specs.Logged.{entries_in, leaf_in, deep_by};
 ghost use Rattle.printer.specs.Turns.{state_in, moved, Ready, count_by, Kept, Turned};
 
 use crate::print::State;
-use crate::{frame, layout, numbers, out, places, print, texts};
+use crate::{entries, frame, layout, numbers, out, places, print, texts};
 use tree::bytes;
 
 // Another frame, and more is written.
@@ -168,7 +168,7 @@ fn leaf(
     let m = slot / 128;
     let own = slot % 128;
     let a = print::leaf_opening(words, tree, starts, text, old, f, count, m, own);
-    if code == 13 && places::is_quasis(m) {
+    if code == entries::LITERAL && places::is_quasis(m) {
         return State {
             top: print::around(starts, f, m, 0, count),
             level,
@@ -364,7 +364,7 @@ pub(crate) fn turn(
     let code = v % 16;
     let n = v / 16 % 65536;
     match code {
-        1 => begin(
+        entries::NODE => begin(
             slots,
             sorts,
             words,
@@ -377,13 +377,13 @@ pub(crate) fn turn(
             n / 64 % 256,
             v / 1048576 % 256,
         ),
-        2 => open_list(slots, words, stack, text, s, n),
-        3 => text_met(slots, words, tree, starts, text, s, n),
-        4 => quiet(s),
-        6 => number_met(text, s, n),
-        8 => end(sorts, words, stack, text, s),
-        9 => close_list(slots, sorts, words, tree, stack, starts, text, s),
-        10 | 11 | 12 | 13 => leaf(slots, words, tree, starts, text, s, code, n),
+        entries::LIST => open_list(slots, words, stack, text, s, n),
+        entries::TEXT => text_met(slots, words, tree, starts, text, s, n),
+        entries::QUIET => quiet(s),
+        entries::NUMBER => number_met(text, s, n),
+        entries::NODE_ENDS => end(sorts, words, stack, text, s),
+        entries::LIST_ENDS => close_list(slots, sorts, words, tree, stack, starts, text, s),
+        entries::REFERENCE..=entries::LITERAL => leaf(slots, words, tree, starts, text, s, code, n),
         _ => hole(slots, words, text, s),
     }
 }

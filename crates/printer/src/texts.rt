@@ -7,7 +7,7 @@ ghost use Rattle.printer.specs.Names.{in_quotes};
 ghost use Rattle.printer.specs.Rows.{slot_numbers, word_numbers};
 ghost use Rattle.printer.specs.Stacks.{frame_in, text_at_of, write, buffer_in, is_empty};
 
-use crate::{frame, layout, names, out, places};
+use crate::{entries, frame, layout, names, out, places};
 use tree::bytes;
 
 // No byte is there.
@@ -160,10 +160,10 @@ pub(crate) fn leaf(tree: &[u8], p: usize, text: &mut [u8], spot: usize, code: us
 {
     let at = p % 65536 + 2;
     let n = bytes::wide_at(tree, p % 65536);
-    if code == 12 {
+    if code == entries::STATIC_KEY {
         return key(tree, at, n, text, spot);
     }
-    if code == 13 && is_empty(tree, at, n) {
+    if code == entries::LITERAL && is_empty(tree, at, n) {
         return quoted(tree, at + n, text, spot);
     }
     out::copy(tree, at, n, text, spot)

@@ -38,8 +38,8 @@ pub returns-in-9 : goal.returns-in-9
 unfolding entries_for print_all
 returns-in-9 c = λ hs hr hw hc. law.as_code c.args.tree.now c.args.stack.now c.args.starts.now _ _ (buffer_in c.args.text.now c.args.s.spot) _ c.args.s _ c.args.v 9 c.in-9.is (λ h. c.close_list.ensures hs hr hw h.0 h.1)
 
-pub returns-in-10 : goal.returns-in-10
-returns-in-10 c = λ hs hr hw hc.
+pub returns-in-10-to-13 : goal.returns-in-10-to-13
+returns-in-10-to-13 c = λ hs hr hw hc.
     let past : 9 < c.args.v % 16 = omega arith in
     let low : c.args.v % 16 < 14 = omega arith in
     law.as_code c.args.tree.now c.args.stack.now c.args.starts.now _ _ (buffer_in c.args.text.now c.args.s.spot) _ c.args.s _ c.args.v (c.args.v % 16) refl (law.leaf_by c.args.tree.now c.args.stack.now c.args.starts.now _ _ (buffer_in c.args.text.now c.args.s.spot) _ c.args.s _ (c.args.v % 16) (c.args.v / 16 % 65536) (c.args.v / 1048576 % 256) past low (λ h g. c.leaf.ensures hs hw c.args.stack.now (c.args.v / 1048576 % 256) past low h hc g))
