@@ -2,7 +2,7 @@
 // and the expected next mark (16 bits each, little-endian; the mark is 0 on a refusal), then the tree.
 use crate::STDIN_FILENO;
 use crate::tally::{Tally, say, say_number, wide};
-use tree::read::Answer;
+use tree::read::{Reading, Refusal};
 
 // What stands in front of a case's tree.
 #[derive(Clone, Copy)]
@@ -38,15 +38,15 @@ fn head_of(bytes: &[u8; 6]) -> Head {
     }
 }
 
-fn found_of(answer: Answer) -> Found {
-    match answer {
-        Answer::Read(end, mark) => Found {
+fn found_of(reading: Result<Reading, Refusal>) -> Found {
+    match reading {
+        Ok(Reading { end, mark }) => Found {
             answer: 0,
-            end: end,
-            mark: mark,
+            end,
+            mark,
         },
-        Answer::Refused(number) => Found {
-            answer: number,
+        Err(refusal) => Found {
+            answer: u8::from(refusal),
             end: 0,
             mark: 0,
         },
