@@ -1,9 +1,7 @@
 // Where a drawing stands, and bytes written at a position. What is past the end is not written, and is counted up to one byte.
-ghost use Rattle.std.specs.Prelude.{◌≡◌, length, replicate, slice_set};
+ghost use Rattle.std.specs.Prelude.{◌≡◌, length, slice_set};
 ghost use Rattle.drawing.specs.Pen.{next, put, reach};
 ghost use Rattle.tree.specs.Tree.{wide_bytes};
-
-use tree::bytes;
 
 // The generator's state, how many nodes are still to be begun before all is cut short, the next mark, the position; and what
 // was drawn last hands on: a field its byte, fields their bit map.
@@ -22,12 +20,8 @@ pub fn put(out: &mut [u8], at: usize, b: u8) -> usize
 {
     if at < out.len() {
         out[at] = b;
-        return at + 1;
     }
-    if at == out.len() {
-        return at + 1;
-    }
-    at
+    if at <= out.len() { at + 1 } else { at }
 }
 
 // A 16-bit number, little-endian. Returns the next position.
@@ -36,11 +30,4 @@ pub fn put_wide(out: &mut [u8], at: usize, n: u16) -> usize
 {
     let high = put(out, at, (n % 256) as u8);
     put(out, high, (n / 256) as u8)
-}
-
-// Every byte 0.
-pub fn clear(s: &mut [u8])
-    ensures { s.new ≡ replicate (length s.old) 0 }
-{
-    bytes::clear(s);
 }

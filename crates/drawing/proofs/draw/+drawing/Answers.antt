@@ -1,7 +1,7 @@
 use Rattle.std.proofs.Common.{◌-◌, sym, refl, ◌∙◌, arith}
 use Rattle.drawing.specs.Draw.{draw_field}
 use Rattle.drawing.proofs.DrawingWaysOut as law
-use Rattle.drawing.proofs.draw.+fields_items_node_slot.Goals as goal
+use Rattle.drawing.proofs.draw.+drawing.Goals as goal
 
 pub fields-fields-i-requires : goal.fields-fields-i-requires
 fields-fields-i-requires t c = (omega (arith, c.decreases, law.fields_fall c.args.row c.if-row-eq0.false), tt)
