@@ -20,8 +20,9 @@ pub fn put(out: &mut [u8], at: usize, b: u8) -> usize
 {
     if at < out.len() {
         out[at] = b;
+        return at + 1;
     }
-    if at <= out.len() { at + 1 } else { at }
+    if at == out.len() { at + 1 } else { at }
 }
 
 // A 16-bit number, little-endian. Returns the next position.
