@@ -1,4 +1,5 @@
+use Rattle.result.proofs.Looking as law
 use Rattle.result.proofs.rest_spread_leftover.Goals as goal
 
 pub returns : goal.returns
-returns c = ?
+returns c = rw (← c.leftover.ensures) (law.told_byte _)
