@@ -213,7 +213,8 @@ fn slot(out: &mut [u8], code: usize, left: usize, g: Pen) -> Pen
                 node(out, a + 1, left, g)
             }
         }
-        3 | 4 => items(out, a, left, g),
+        3 => items(out, a, left, g),
+        4 => items(out, a, left, g),
         5 => text(out, g),
         6 => mark(out, g),
         7 => byte(out, 0, a as u8, g),

@@ -6,7 +6,8 @@ use Rattle.drawing.proofs.draw.+drawing.Given as goal
 
 -- as many nodes are still to be drawn as the turns leave
 abbrev pub invariant-items-loop : goal.invariant-items-loop
-invariant-items-loop l = ?
+invariant-items-loop l = (drew_items l.out l.h.at (draw_items (draw_node l.left l.place) (l.n - l.counter) l.h.state l.h.more l.h.mark) ≡ drew_items l.initial.out l.initial.h.at (draw_items (draw_node l.left l.place) l.n l.initial.h.state l.initial.h.more l.initial.h.mark))
+    × (l.h.value ≡ 0) × (length l.out ≡ length l.initial.out)
 
 abbrev pub decreases-fields : goal.decreases-fields
 decreases-fields l = 16 * l.left + (4 + length (fields_in_of l.row))
