@@ -340,7 +340,7 @@ item-returns t c = let e : hole_at _ _ _ ≡ false = (elim c.if-holes.branch [ i
     (c.node-2.ensures.0 ∙ law.item_next _ _ _ _ e, law.node_does _ _ _ _ _ _ _ e c.if-l.false c.node-2.ensures.1)
 
 pub items-loop-init : goal.items-loop-init
-items-loop-init t c = (refl, refl, refl, refl, λ g. (g, law.onto_start _ _))
+items-loop-init t c = let e : c.args.count - 0 ≡ c.args.count = omega arith in rw e (refl, refl, refl, refl, λ g. (g, law.onto_start _ _))
 
 pub items-loop-preserved : goal.items-loop-preserved
 items-loop-preserved t c =
@@ -511,7 +511,7 @@ pub view_property-returns : goal.view_property-returns
 view_property-returns t c = viewing.property_does _ _ _ _ _ _ _ _ _ _ _ _ _ _ _ c.step-2.ensures c.copy-2.ensures.1 c.inside.ensures.0 (c.inside.ensures.1 ∙ c.less-left.ensures) c.inside-2.ensures.0 (c.inside-2.ensures.1 ∙ c.less-left.ensures) c.step-3.ensures c.copy-3.ensures.1 (runs_does (c.copy-2.ensures.0 _ _)) c.key-u.ensures c.view-u.ensures (runs_does (c.copy-3.ensures.0 _ _))
 
 pub properties-loop-before-init : goal.properties-loop-before-init
-properties-loop-before-init t c = (refl, refl, refl, refl, (λ z g. (g, law.onto_start _ _)))
+properties-loop-before-init t c = let e : c.args.count - 0 ≡ c.args.count = omega arith in rw e (refl, refl, refl, refl, (λ z g. (g, law.onto_start _ _)))
 
 pub properties-loop-before-preserved : goal.properties-loop-before-preserved
 properties-loop-before-preserved t c =
@@ -562,7 +562,7 @@ pub rest-returns : goal.rest-returns
 rest-returns t c = (c.read-u.ensures.0 ∙ c.source-s-2.ensures.0 ∙ c.call.ensures.1, reading.keeps_read _ _ c.source-s-2.ensures.1, λ _ good k _. excluding.rest_keys _ _ _ _ _ _ _ _ c.has_no_properties.ensures c.if-has_no_properties.false (told.with_inner _ _ c.inside.ensures.0) c.inside.ensures.1 (steps.does_call _ _ (c.call.ensures.0 _ _)) (runs_does c.source-s-2.ensures.2) c.read-u.ensures.1 good k)
 
 pub turns-loop-init : goal.turns-loop-init
-turns-loop-init t c = (refl, refl, refl, λ g a. turning.along_start _ _ _ _ _ _ _ _ g a)
+turns-loop-init t c = let e : c.args.count - 0 ≡ c.args.count = omega arith in rw e (refl, refl, refl, λ g a. turning.along_start _ _ _ _ _ _ _ _ g a)
 
 pub turns-loop-preserved : goal.turns-loop-preserved
 turns-loop-preserved t c =
