@@ -1,7 +1,8 @@
 // A case of reading is the depth limit and the expected answer (a byte each; the answer is 0, 3 or 4), the length of its tree
 // and the expected next mark (16 bits each, little-endian; the mark is 0 on a refusal), then the tree.
 use crate::STDIN_FILENO;
-use crate::tally::{Tally, say, say_number, wide};
+use crate::bytes::number16;
+use crate::tally::{Tally, say, say_number};
 use tree::read::{Reading, Refusal};
 
 // What stands in front of a case's tree.
@@ -31,10 +32,10 @@ fn say_answer(answer: u8, end: usize, mark: usize) {
 
 fn head_of(bytes: &[u8; 6]) -> Head {
     Head {
-        limit: wide(bytes[0], 0),
+        limit: bytes[0] as usize,
         answer: bytes[1],
-        length: wide(bytes[2], bytes[3]),
-        mark: wide(bytes[4], bytes[5]),
+        length: number16(bytes[2], bytes[3]),
+        mark: number16(bytes[4], bytes[5]),
     }
 }
 
