@@ -52,7 +52,7 @@ use walk::hand::{
 };
 use walk::literal::{has_first, has_spread, is_spread, opening, pending, run_of};
 use walk::look::{
-    KeyClass, Start, cell, enters_arrays, first_bit, has_second, hoisted, is_other, item_mode,
+    KeyClass, cell, enters_arrays, first_bit, has_second, hoisted, is_other, item_mode,
     key_sort, level, moved_in, replaces, second, start_of,
 };
 use walk::modes::{Deep, Mode};
@@ -921,9 +921,8 @@ fn declaration(
         return w;
     }
     let p = w.at;
-    let r = declaration_refusal(t, c.left, p);
-    if 0 < r {
-        return w.refuse(out, r).to(skip(t, c.left, p));
+    if let Some(r) = declaration_refusal(t, c.left, p) {
+        return w.refuse(out, u8::from(r)).to(skip(t, c.left, p));
     }
     let u = declaration_hands(w, t, list, work, c.left, p, root);
     let q = step(t, p, 5);
@@ -961,13 +960,13 @@ fn declarator(
     let p = w.at;
     let left = less(c.left);
     let id = step(t, p, 2);
-    let Start::Value(init) = start_of(t, c.left, p) else {
+    let Some(init) = start_of(t, c.left, p) else {
         return node(w, t, out, list, work, told_inside(c, root, c.left));
     };
     if has_nested_object_rest(t, left, id) {
         let end = skip(t, left, init);
         let b = ReferenceBuilder::new(t, left, init, cell(stems::VALUE, id), stems::VALUE, false);
-        return lowered(w, t, out, list, work, under(c, left), root, id, b).to(end);
+        return lowered(w, t, out, list, work, under(c, left), root, id, init, b).to(end);
     }
     node(w, t, out, list, work, told_inside(c, root, c.left))
 }
@@ -983,21 +982,25 @@ fn lowered(
     c: Place,
     root: bool,
     id: usize,
+    init: usize,
     b: ReferenceBuilder,
 ) -> Walk
-    ensures { b ≡ builder_of t.now c.left b.at (events.cell 3 id) 3 false → Good t.now c.left id → Good t.now c.left b.at → Does (going_of out.old list.old work.old w) (going_of out.new list.new work.new result) (emits_lowered (place_with root c) (look_node t.now c.left id).value (look_node t.now c.left b.at).value) }
+    ensures { b ≡ builder_of t.now c.left init (events.cell 3 id) 3 false → Good t.now c.left id → Good t.now c.left init → Does (going_of out.old list.old work.old w) (going_of out.new list.new work.new result) (emits_lowered (place_with root c) (look_node t.now c.left id).value (look_node t.now c.left init).value) }
 {
-    if b.wanted {
-        let taken = b.create_read_expression();
-        let read = taken.read;
-        let u = w
-            .put2(out, written::DECLARATOR, written::FIRST_TWO)
-            .temporary(out, list, work, b.cell, b.stem)
-            .to(place_of(read));
-        let u = node(u, t, out, list, work, told_inside(c, root, c.left));
-        return declarators(u.to(id), t, out, list, work, c, root, taken.next);
+    match b {
+        ReferenceBuilder::Wanted {
+            cell: kept, stem, ..
+        } => {
+            let taken = b.create_read_expression();
+            let u = w
+                .put2(out, written::DECLARATOR, written::FIRST_TWO)
+                .temporary(out, list, work, kept, stem)
+                .to(place_of(taken.read));
+            let u = node(u, t, out, list, work, told_inside(c, root, c.left));
+            declarators(u.to(id), t, out, list, work, c, root, taken.next)
+        }
+        _ => declarators(w.to(id), t, out, list, work, c, root, b),
     }
-    declarators(w.to(id), t, out, list, work, c, root, b)
 }
 
 // The declarators of a pattern, read from b.
@@ -1245,9 +1248,8 @@ fn top(
 ) -> Walk
     ensures { byte_at t.now p ≡ 34 → has_rest_of (look_node t.now c.left p).value ≡ true → Good t.now c.left p → (input ≡ true → Good t.now c.left x) → has_array_rest_over_object_rest (look_node t.now c.left p).value ≡ false → Does (going_of out.old list.old work.old w) (going_of out.new list.new work.new result) (unless_refused (keys_refusal (look_node t.now c.left p).value) (emits_top (place_with root c) (look_node t.now c.left p).value (given_deeds t.now c.left (inner (place_with root c)) input stem x))) }
 {
-    let r = refusal(t, c.left, p);
-    if 0 < r {
-        return w.refuse(out, r);
+    if let Some(r) = refusal(t, c.left, p) {
+        return w.refuse(out, u8::from(r));
     }
     let v = cell(stems::VALUE, p);
     let b = ReferenceBuilder::new(t, c.left, x, v, stems::VALUE, true);
@@ -1623,9 +1625,8 @@ fn front(
     let root = at_root(c);
     let d = marked(inside(c, c.left), w.mark());
     if has_nested_object_rest(t, c.left, p) {
-        let r = refusal_below(t, c.left, p);
-        if 0 < r {
-            return w.refuse(out, r);
+        if let Some(r) = refusal_below(t, c.left, p) {
+            return w.refuse(out, u8::from(r));
         }
         let u = pattern_hands(w, t, list, work, c.left, p, root);
         let k = pattern_declarators(t, c.left, p);

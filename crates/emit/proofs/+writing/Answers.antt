@@ -29,6 +29,7 @@ use Rattle.emit.proofs.Assigning as assigning
 use Rattle.emit.proofs.MovedPatterns as moving
 use Rattle.emit.proofs.Bodying as bodying
 use Rattle.emit.proofs.Finding as finding
+use Rattle.emit.proofs.Refusing.{refused_by, refused_none, refused_past}
 use Rattle.emit.proofs.Declaring as declaring
 use Rattle.pattern.proofs.SourceReads as reading
 use Rattle.pattern.specs.Source.{read_of}
@@ -39,11 +40,11 @@ use Rattle.emit.proofs.+writing.Goals.{catch_clause-else-has_first, catch_clause
 with-next : {A N B : Type 0} → A × B → N → A × N × B
 with-next p n = (p.0, n, p.1)
 
-pub front-returns-then-r-gt0 : goal.front-returns-then-r-gt0
-front-returns-then-r-gt0 t c = moving.add_refused _ _ _ _ _ _ _ c.has_nested_object_rest.ensures c.if-has_nested_object_rest.true c.refusal_below-r.ensures c.if-r-gt0.true (runs_does (c.refuse.ensures.0 _ _))
+pub front-returns-in-Some : goal.front-returns-in-Some
+front-returns-in-Some t c = moving.add_refused _ _ _ _ _ _ _ c.has_nested_object_rest.ensures c.if-has_nested_object_rest.true (λ κ. refused_by c.from.ensures c.in-Some.is (c.refusal_below.ensures κ)) (refused_past _ c.from.ensures) (runs_does (c.refuse.ensures.0 _ _))
 
 pub front-returns-then-has_nested_object_rest : goal.front-returns-then-has_nested_object_rest
-front-returns-then-has_nested_object_rest t c = moving.add_lowered _ _ _ _ _ _ _ _ _ _ _ _ _ _ _ c.has_nested_object_rest.ensures c.if-has_nested_object_rest.true c.refusal_below-r.ensures c.if-r-gt0.false c.at_root-root.ensures c.inside.ensures.0 c.mark.ensures (told.own_marked _ _ c.at_root-root.ensures _ c.inside.ensures.0 c.marked-d.ensures.0) (c.marked-d.ensures.1 ∙ c.inside.ensures.1) (c.pattern_hands-u.ensures.1 _) c.pattern_declarators-k.ensures (steps.does_declaration _ _ (c.declaration.ensures.0 _ _)) (c.to-u.ensures.0 _ _ _) c.to-u.ensures.1 (sources.held_source _ _ _ _ c.held.ensures) (c.declarators.ensures (reading.held_settled _ _ _ c.held.ensures))
+front-returns-then-has_nested_object_rest t c = moving.add_lowered _ _ _ _ _ _ _ _ _ _ _ _ _ _ _ c.has_nested_object_rest.ensures c.if-has_nested_object_rest.true (λ κ. refused_none c.in_default.is (c.refusal_below.ensures κ)) (omega arith) c.at_root-root.ensures c.inside.ensures.0 c.mark.ensures (told.own_marked _ _ c.at_root-root.ensures _ c.inside.ensures.0 c.marked-d.ensures.0) (c.marked-d.ensures.1 ∙ c.inside.ensures.1) (c.pattern_hands-u.ensures.1 _) c.pattern_declarators-k.ensures (steps.does_declaration _ _ (c.declaration.ensures.0 _ _)) (c.to-u.ensures.0 _ _ _) c.to-u.ensures.1 (sources.held_source _ _ _ _ c.held.ensures) (c.declarators.ensures (reading.held_settled _ _ _ c.held.ensures))
 
 pub front-returns : goal.front-returns
 front-returns t c = moving.add_kept _ _ _ _ _ _ _ _ _ _ _ _ c.has_nested_object_rest.ensures c.if-has_nested_object_rest.false c.inside.ensures.0 c.mark.ensures c.marked-d.ensures.0 (c.marked-d.ensures.1 ∙ c.inside.ensures.1) (steps.does_declaration _ _ (c.declaration-2.ensures.0 _ _)) (runs_does (c.put2.ensures.0 _ _)) (c.to-u-2.ensures.0 _ _ _) c.to-u-2.ensures.1 c.node.ensures (runs_does c.temporary.ensures.0)
@@ -179,11 +180,11 @@ deep_object-returns-else-has_second t c = finding.object_plain _ _ _ _ _ _ _ _ c
 pub declaration-returns-then-c-eq0 : goal.declaration-returns-then-c-eq0
 declaration-returns-then-c-eq0 t c = λ k. (node_none _ _ _ c.if-c-eq0.true, λ good. good_none _ _ _ c.if-c-eq0.true good)
 
-pub declaration-returns-then-r-gt0 : goal.declaration-returns-then-r-gt0
-declaration-returns-then-r-gt0 t c = declaring.declaration_refuses _ _ _ _ _ _ _ c.declaration_refusal-r.ensures c.if-r-gt0.true (runs_does (c.refuse.ensures.0 _ _)) c.skip.ensures c.to.ensures.1 (c.to.ensures.0 _ _ _)
+pub declaration-returns-in-Some : goal.declaration-returns-in-Some
+declaration-returns-in-Some t c = declaring.declaration_refuses _ _ _ _ _ _ _ (λ κ. refused_by c.from.ensures c.in-Some.is (c.declaration_refusal.ensures κ)) (refused_past _ c.from.ensures) (runs_does (c.refuse.ensures.0 _ _)) c.skip.ensures c.to.ensures.1 (c.to.ensures.0 _ _ _)
 
 pub declaration-returns : goal.declaration-returns
-declaration-returns t c = declaring.declaration_writes _ _ _ _ _ _ _ _ _ _ _ _ _ _ _ _ _ _ c.declaration_refusal-r.ensures c.if-r-gt0.false c.at_root-root.ensures c.declaration_hands-u.ensures.0 (c.declaration_hands-u.ensures.1 _) c.step-q.ensures c.declaration_becomes-k.ensures (runs_does (c.copy.ensures.0 _ _)) (steps.does_wide _ (c.wide.ensures.0 _ _)) c.step.ensures c.to-u.ensures.1 (c.to-u.ensures.0 _ _ _) c.skip-end.ensures c.less.ensures (told.with_own _ c.under.ensures.0 c.at_root-root.ensures) c.under.ensures.1 c.wide_at.ensures (told.items_with _ _ _ _ _ _ _ _ _ _ _ told.told_declarator c.turns.ensures) c.to-2.ensures.1 (c.to-2.ensures.0 _ _ _)
+declaration-returns t c = declaring.declaration_writes _ _ _ _ _ _ _ _ _ _ _ _ _ _ _ _ _ _ (λ κ. refused_none c.in_default.is (c.declaration_refusal.ensures κ)) (omega arith) c.at_root-root.ensures c.declaration_hands-u.ensures.0 (c.declaration_hands-u.ensures.1 _) c.step-q.ensures c.declaration_becomes-k.ensures (runs_does (c.copy.ensures.0 _ _)) (steps.does_wide _ (c.wide.ensures.0 _ _)) c.step.ensures c.to-u.ensures.1 (c.to-u.ensures.0 _ _ _) c.skip-end.ensures c.less.ensures (told.with_own _ c.under.ensures.0 c.at_root-root.ensures) c.under.ensures.1 c.wide_at.ensures (told.items_with _ _ _ _ _ _ _ _ _ _ _ told.told_declarator c.turns.ensures) c.to-2.ensures.1 (c.to-2.ensures.0 _ _ _)
 
 pub deep-returns-then-c-eq0 : goal.deep-returns-then-c-eq0
 deep-returns-then-c-eq0 t c = λ good suit. good_none _ _ _ c.if-c-eq0.true good
@@ -210,10 +211,10 @@ pub declarator-returns-in_default : goal.declarator-returns-in_default
 declarator-returns-in_default t c = declaring.declarator_bare _ _ _ _ _ _ _ _ c.start_of.ensures c.in_default.is c.told_inside.ensures.0 c.told_inside.ensures.1 c.node.ensures
 
 pub declarator-returns-then-has_nested_object_rest : goal.declarator-returns-then-has_nested_object_rest
-declarator-returns-then-has_nested_object_rest t c = declaring.declarator_done _ _ _ _ _ _ _ _ _ _ _ _ _ _ _ c.less-left.ensures c.step-id.ensures c.start_of.ensures c.in-Value.is c.has_nested_object_rest.ensures c.if-has_nested_object_rest.true c.skip-end.ensures c.cell.ensures c.new-b.ensures (told.with_same _ c.under.ensures.0) c.under.ensures.1 c.lowered.ensures (c.to.ensures.0 _ _ _) c.to.ensures.1
+declarator-returns-then-has_nested_object_rest t c = declaring.declarator_done _ _ _ _ _ _ _ _ _ _ _ _ _ _ _ c.less-left.ensures c.step-id.ensures c.start_of.ensures c.in-Some.is c.has_nested_object_rest.ensures c.if-has_nested_object_rest.true c.skip-end.ensures c.cell.ensures c.new-b.ensures (told.with_same _ c.under.ensures.0) c.under.ensures.1 c.lowered.ensures (c.to.ensures.0 _ _ _) c.to.ensures.1
 
 pub declarator-returns : goal.declarator-returns
-declarator-returns t c = declaring.declarator_stays _ _ _ _ _ _ _ _ _ _ _ _ c.less-left.ensures c.step-id.ensures c.start_of.ensures c.in-Value.is c.has_nested_object_rest.ensures c.if-has_nested_object_rest.false c.told_inside-2.ensures.0 c.told_inside-2.ensures.1 c.node-2.ensures
+declarator-returns t c = declaring.declarator_stays _ _ _ _ _ _ _ _ _ _ _ _ c.less-left.ensures c.step-id.ensures c.start_of.ensures c.in-Some.is c.has_nested_object_rest.ensures c.if-has_nested_object_rest.false c.told_inside-2.ensures.0 c.told_inside-2.ensures.1 c.node-2.ensures
 
 pub arrow_body-returns-then-peek-eq-FUNCTION_BODY : goal.arrow_body-returns-then-peek-eq-FUNCTION_BODY
 arrow_body-returns-then-peek-eq-FUNCTION_BODY t c = c.function_body.ensures (sym c.peek.ensures.value ∙ c.if-peek-eq-FUNCTION_BODY.true)
@@ -390,11 +391,11 @@ literal-returns-then-has_spread t c = λ h. (c.to.ensures.1 ∙ c.skip.ensures, 
 pub literal-returns : goal.literal-returns
 literal-returns t c = λ h. (c.plain.ensures.0, args.object_plain _ _ _ _ _ (λ k. c.has_spread.ensures ∙ heads.spread_literal _ _ _ k) c.if-has_spread.false h c.plain.ensures.1)
 
-pub lowered-returns-then-b : goal.lowered-returns-then-b
-lowered-returns-then-b t c = declaring.lowered_kept _ _ _ _ _ _ _ _ _ _ _ _ _ _ c.if-b.true (runs_does (c.put2.ensures.0 _ _)) (runs_does c.temporary.ensures.0) (c.to-u.ensures.0 _ _ _) c.to-u.ensures.1 c.place_of.ensures c.create_read_expression-taken.ensures.0 c.told_inside.ensures.0 c.told_inside.ensures.1 c.node-u.ensures c.create_read_expression-taken.ensures.1 (c.to.ensures.0 _ _ _) c.to.ensures.1 c.declarators.ensures
+pub lowered-returns-in-Wanted : goal.lowered-returns-in-Wanted
+lowered-returns-in-Wanted t c = declaring.lowered_kept _ _ _ _ _ _ _ _ _ _ _ _ _ _ _ _ _ _ c.in-Wanted.is (runs_does (c.put2.ensures.0 _ _)) (runs_does c.temporary.ensures.0) (c.to-u.ensures.0 _ _ _) c.to-u.ensures.1 c.place_of.ensures c.create_read_expression-taken.ensures.0 c.told_inside.ensures.0 c.told_inside.ensures.1 c.node-u.ensures c.create_read_expression-taken.ensures.1 (c.to.ensures.0 _ _ _) c.to.ensures.1 c.declarators.ensures
 
-pub lowered-returns : goal.lowered-returns
-lowered-returns t c = declaring.lowered_read _ _ _ _ _ _ _ c.if-b.false (c.to-2.ensures.0 _ _ _) c.to-2.ensures.1 c.declarators-2.ensures
+pub lowered-returns-in_default : goal.lowered-returns-in_default
+lowered-returns-in_default t c = declaring.lowered_read _ _ _ _ _ _ _ (λ l m k s. c.in_default.not-Wanted l m k s) (c.to-2.ensures.0 _ _ _) c.to-2.ensures.1 c.declarators-2.ensures
 
 pub fronts_of_pattern-returns-then-c-eq0 : goal.fronts_of_pattern-returns-then-c-eq0
 fronts_of_pattern-returns-then-c-eq0 t c = moving.moved_none _ _ _ _ c.if-c-eq0.true
@@ -620,14 +621,14 @@ assigning_head-returns-then-c-eq0 t c = λ loop four na ob good. law.good_none _
 pub assigning_head-returns : goal.assigning_head-returns
 assigning_head-returns t c = looping.assigning_does _ _ _ _ _ _ _ _ _ _ _ _ _ c.less-left.ensures c.step-q.ensures c.scoped-d.ensures.0 c.scoped-d.ensures.1 c.make.ensures.1 c.skip.ensures c.to.ensures.1 (c.to.ensures.0 _ _ _) (runs_does (c.make.ensures.0 _ _)) (runs_does (c.copy-u.ensures.0 _ _)) (steps.does_declaration _ _ (c.declaration.ensures.0 _ _)) (runs_does (c.put2.ensures.0 _ _)) (runs_does c.temporary-u.ensures.0) c.node-u.ensures c.assigning_body-u.ensures (runs_does (c.await_of.ensures.1 _ _))
 
-pub top-returns-then-r-gt0 : goal.top-returns-then-r-gt0
-top-returns-then-r-gt0 t c = λ k h g x a. assigning.top_refused _ _ _ _ _ _ _ _ c.refusal-r.ensures c.if-r-gt0.true (runs_does (c.refuse.ensures.0 _ _))
+pub top-returns-in-Some : goal.top-returns-in-Some
+top-returns-in-Some t c = λ k h g x a. assigning.top_refused _ _ _ _ _ _ _ _ (refused_by c.from.ensures c.in-Some.is c.refusal.ensures) (refused_past _ c.from.ensures) (runs_does (c.refuse.ensures.0 _ _))
 
 pub top-returns-then-c : goal.top-returns-then-c
-top-returns-then-c t c = λ k h. assigning.top_does _ _ _ _ _ _ _ _ _ _ _ _ _ _ _ _ _ _ _ _ _ c.refusal-r.ensures c.if-r-gt0.false c.told_inside-d.ensures (c.top_hands-u.ensures.1 _) (hands.top_counted _ _ _ _ c.top_count-k.ensures) (runs_does (c.put2.ensures.0 _ _)) (steps.does_wide _ (c.wide.ensures.0 _ _)) (runs_does (c.assign.ensures.0 _ _)) c.cell-v.ensures (runs_does c.temporary-u.ensures.0) (assigning.given_at _ _ _ _ _ _ _ (assigning.forced_place _ _ _ _ _ _ _ c.place_of-y.ensures c.create_read_expression-first.ensures.0 c.new-b.ensures) c.given_value-u.ensures) (c.target-s.ensures.1 (assigning.forced_reads _ _ _ _ _ _ _ c.new-b.ensures c.create_read_expression-first.ensures.1 c.cell-v.ensures)) (c.object_properties-u.ensures (told.told_value_lem _)) (runs_does (c.assign-2.ensures.0 _ _)) c.assign-2.ensures.1 c.less.ensures c.told_inside.ensures c.node-u.ensures.1 refl (λ u. sources.reads_cell u _ _ _ ((c.target-s.ensures.0 (reading.settled_read _ _ c.create_read_expression-first.ensures.1)).1 ∙ (assigning.forced_reads _ _ _ _ _ _ _ c.new-b.ensures c.create_read_expression-first.ensures.1 c.cell-v.ensures))) (told.own_inner _ _ refl c.told_inside-d.ensures.0) (c.rest-s.ensures.2 (c.target-s.ensures.0 (reading.settled_read _ _ c.create_read_expression-first.ensures.1)).0) (λ w. does_nothing _) (assigning.read_none _ _ c.if-c.true) k h
+top-returns-then-c t c = λ k h. assigning.top_does _ _ _ _ _ _ _ _ _ _ _ _ _ _ _ _ _ _ _ _ _ (refused_none c.in_default.is c.refusal.ensures) (omega arith) c.told_inside-d.ensures (c.top_hands-u.ensures.1 _) (hands.top_counted _ _ _ _ c.top_count-k.ensures) (runs_does (c.put2.ensures.0 _ _)) (steps.does_wide _ (c.wide.ensures.0 _ _)) (runs_does (c.assign.ensures.0 _ _)) c.cell-v.ensures (runs_does c.temporary-u.ensures.0) (assigning.given_at _ _ _ _ _ _ _ (assigning.forced_place _ _ _ _ _ _ _ c.place_of-y.ensures c.create_read_expression-first.ensures.0 c.new-b.ensures) c.given_value-u.ensures) (c.target-s.ensures.1 (assigning.forced_reads _ _ _ _ _ _ _ c.new-b.ensures c.create_read_expression-first.ensures.1 c.cell-v.ensures)) (c.object_properties-u.ensures (told.told_value_lem _)) (runs_does (c.assign-2.ensures.0 _ _)) c.assign-2.ensures.1 c.less.ensures c.told_inside.ensures c.node-u.ensures.1 refl (λ u. sources.reads_cell u _ _ _ ((c.target-s.ensures.0 (reading.settled_read _ _ c.create_read_expression-first.ensures.1)).1 ∙ (assigning.forced_reads _ _ _ _ _ _ _ c.new-b.ensures c.create_read_expression-first.ensures.1 c.cell-v.ensures))) (told.own_inner _ _ refl c.told_inside-d.ensures.0) (c.rest-s.ensures.2 (c.target-s.ensures.0 (reading.settled_read _ _ c.create_read_expression-first.ensures.1)).0) (λ w. does_nothing _) (assigning.read_none _ _ c.if-c.true) k h
 
 pub top-returns : goal.top-returns
-top-returns t c = λ k h. assigning.top_does _ _ _ _ _ _ _ _ _ _ _ _ _ _ _ _ _ _ _ _ _ c.refusal-r.ensures c.if-r-gt0.false c.told_inside-d.ensures (c.top_hands-u.ensures.1 _) (hands.top_counted _ _ _ _ c.top_count-k.ensures) (runs_does (c.put2.ensures.0 _ _)) (steps.does_wide _ (c.wide.ensures.0 _ _)) (runs_does (c.assign.ensures.0 _ _)) c.cell-v.ensures (runs_does c.temporary-u.ensures.0) (assigning.given_at _ _ _ _ _ _ _ (assigning.forced_place _ _ _ _ _ _ _ c.place_of-y.ensures c.create_read_expression-first.ensures.0 c.new-b.ensures) c.given_value-u.ensures) (c.target-s.ensures.1 (assigning.forced_reads _ _ _ _ _ _ _ c.new-b.ensures c.create_read_expression-first.ensures.1 c.cell-v.ensures)) (c.object_properties-u.ensures (told.told_value_lem _)) (runs_does (c.assign-2.ensures.0 _ _)) c.assign-2.ensures.1 c.less.ensures c.told_inside.ensures c.node-u.ensures.1 refl (λ u. sources.reads_cell u _ _ _ ((c.target-s.ensures.0 (reading.settled_read _ _ c.create_read_expression-first.ensures.1)).1 ∙ (assigning.forced_reads _ _ _ _ _ _ _ c.new-b.ensures c.create_read_expression-first.ensures.1 c.cell-v.ensures))) (told.own_inner _ _ refl c.told_inside-d.ensures.0) (c.rest-s.ensures.2 (c.target-s.ensures.0 (reading.settled_read _ _ c.create_read_expression-first.ensures.1)).0) (assigning.value_read _ _ refl (running.does_as (runs_does c.source-s.ensures.2) (sources.reads_cell _ _ _ _ ((c.rest-s.ensures.1 (c.target-s.ensures.0 (reading.settled_read _ _ c.create_read_expression-first.ensures.1)).0).1 ∙ ((c.target-s.ensures.0 (reading.settled_read _ _ c.create_read_expression-first.ensures.1)).1 ∙ (assigning.forced_reads _ _ _ _ _ _ _ c.new-b.ensures c.create_read_expression-first.ensures.1 c.cell-v.ensures)))))) (assigning.read_some _ _ c.if-c.false) k h
+top-returns t c = λ k h. assigning.top_does _ _ _ _ _ _ _ _ _ _ _ _ _ _ _ _ _ _ _ _ _ (refused_none c.in_default.is c.refusal.ensures) (omega arith) c.told_inside-d.ensures (c.top_hands-u.ensures.1 _) (hands.top_counted _ _ _ _ c.top_count-k.ensures) (runs_does (c.put2.ensures.0 _ _)) (steps.does_wide _ (c.wide.ensures.0 _ _)) (runs_does (c.assign.ensures.0 _ _)) c.cell-v.ensures (runs_does c.temporary-u.ensures.0) (assigning.given_at _ _ _ _ _ _ _ (assigning.forced_place _ _ _ _ _ _ _ c.place_of-y.ensures c.create_read_expression-first.ensures.0 c.new-b.ensures) c.given_value-u.ensures) (c.target-s.ensures.1 (assigning.forced_reads _ _ _ _ _ _ _ c.new-b.ensures c.create_read_expression-first.ensures.1 c.cell-v.ensures)) (c.object_properties-u.ensures (told.told_value_lem _)) (runs_does (c.assign-2.ensures.0 _ _)) c.assign-2.ensures.1 c.less.ensures c.told_inside.ensures c.node-u.ensures.1 refl (λ u. sources.reads_cell u _ _ _ ((c.target-s.ensures.0 (reading.settled_read _ _ c.create_read_expression-first.ensures.1)).1 ∙ (assigning.forced_reads _ _ _ _ _ _ _ c.new-b.ensures c.create_read_expression-first.ensures.1 c.cell-v.ensures))) (told.own_inner _ _ refl c.told_inside-d.ensures.0) (c.rest-s.ensures.2 (c.target-s.ensures.0 (reading.settled_read _ _ c.create_read_expression-first.ensures.1)).0) (assigning.value_read _ _ refl (running.does_as (runs_does c.source-s.ensures.2) (sources.reads_cell _ _ _ _ ((c.rest-s.ensures.1 (c.target-s.ensures.0 (reading.settled_read _ _ c.create_read_expression-first.ensures.1)).0).1 ∙ ((c.target-s.ensures.0 (reading.settled_read _ _ c.create_read_expression-first.ensures.1)).1 ∙ (assigning.forced_reads _ _ _ _ _ _ _ c.new-b.ensures c.create_read_expression-first.ensures.1 c.cell-v.ensures)))))) (assigning.read_some _ _ c.if-c.false) k h
 
 pub turn-returns-then-peek-eq0 : goal.turn-returns-then-peek-eq0
 turn-returns-then-peek-eq0 t c = turning.turned_hole _ _ _ _ _ _ _ _ c.if-holes.true c.peek.ensures c.if-peek-eq0.true c.hole.ensures.0 (sources.does_hole _ _ _ (c.hole.ensures.1 _ _))
