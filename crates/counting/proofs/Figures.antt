@@ -134,19 +134,14 @@ next_way m j =
 pub way_on : (m j r : ℕ) → r ≡ choose m j → r * (m - j) / (j + 1) ≡ choose m (j + 1)
 way_on m j r e = ap (λ (x : ℕ). x * (m - j) / (j + 1)) e ∙ next_way m j
 
-pub figured_none : (n c : ℕ) → c ≡ 0 → 1 ≡ figure n c
-unfolding figure
-figured_none zero zero h = refl
-figured_none (suc n) zero h = refl
-figured_none n (suc c) h = absurd (omega arith)
-
 pub figured_above : (n c : ℕ) → n < c → 0 ≡ figure n c
 figured_above n c h = sym (above_none n c h)
 
-pub figured_one : (n c : ℕ) → c ≡ 1 → c ≤ n → 1 ≡ figure n c
+pub figured_one : (n c : ℕ) → c < 2 → c ≤ n → 1 ≡ figure n c
 unfolding figure
-figured_one zero c e h = absurd (omega arith)
-figured_one (suc n) zero e h = absurd (omega arith)
+figured_one zero zero e h = refl
+figured_one zero (suc c) e h = absurd (omega arith)
+figured_one (suc n) zero e h = refl
 figured_one (suc n) (suc zero) e h = refl
 figured_one (suc n) (suc (suc c)) e h = absurd (omega arith)
 

@@ -2,62 +2,33 @@
 // each; the second is empty on a refusal. Any other argument gets a line of usage.
 #![tactic(auto)]
 
-ghost use Rattle.std.specs.Prelude.{◌≡◌};
-
 use std::env::{Env, FillError};
 
 // Standard output.
 const STDOUT_FILENO: i32 = 1;
 
-#[derive(Clone, Copy)]
-enum Seed {
-    Given(u32),
-    Missing,
-}
-
-fn wide(b: u8) -> u64
-    ensures { result ≡ b }
-{
-    b as u64
-}
-
 fn say(text: &[u8]) {
     io::write_all(STDOUT_FILENO, text);
 }
 
-// The highest seed.
-const HIGHEST: u64 = 4294967295;
-
 // The number of decimal digits that is no more than a u32 holds.
-fn seed_of(text: &[u8]) -> Seed {
-    let mut n: u64 = 0;
-    let mut i = 0;
-    while i < text.len() {
-        let b = text[i];
-        if b < b'0' {
-            return Seed::Missing;
-        }
-        if b'9' < b {
-            return Seed::Missing;
-        }
-        if HIGHEST < n {
-            return Seed::Missing;
-        }
-        n = 10 * n + wide(b - b'0');
-        i += 1;
+fn seed_of(text: &[u8]) -> Option<u32> {
+    if text.is_empty() {
+        return None;
     }
-    if i == 0 {
-        return Seed::Missing;
+    let mut seed: u32 = 0;
+    for byte in text {
+        if !byte.is_ascii_digit() {
+            return None;
+        }
+        seed = seed.checked_mul(10)?.checked_add((byte - b'0') as u32)?;
     }
-    if HIGHEST < n {
-        return Seed::Missing;
-    }
-    Seed::Given(n as u32)
+    Some(seed)
 }
 
 fn say_tree(tree: &[u8]) {
-    for i in 0..tree.len() {
-        io::print_hex(STDOUT_FILENO, wide(tree[i]), 2);
+    for byte in tree {
+        io::print_hex(STDOUT_FILENO, *byte as u64, 2);
     }
     say(b"\n");
 }
@@ -65,7 +36,7 @@ fn say_tree(tree: &[u8]) {
 fn report(seed: u32, out: &mut [u8]) {
     let r = drawing::rest_spread_draw(seed, out);
     let n = r.tree_len;
-    io::print_decimal(STDOUT_FILENO, wide(r.answer));
+    io::print_decimal(STDOUT_FILENO, r.answer as u64);
     say(b"\n");
     say_tree(&out[..n]);
 }
@@ -76,11 +47,11 @@ fn usage() {
 
 fn drawn(text: &[u8]) {
     match seed_of(text) {
-        Seed::Given(seed) => {
+        Some(seed) => {
             let mut out = [0u8; 16384];
             report(seed, &mut out);
         }
-        Seed::Missing => usage(),
+        None => usage(),
     }
 }
 

@@ -1,6 +1,6 @@
 -- The code's tables of kinds are what the grammar works out to, at each of their entries by one test that antt computes.
 -- Assumes nothing.
-use Rattle.std.proofs.Common.{◌≡◌, ℕ, zero, suc, ◌+◌, ◌<◌, ◌≤◌, Bool, T, eqb, ltb, List, [], ◌∷◌, length, get_or, sym, refl, arith, eqb→eq, ltb→lt}
+use Rattle.std.proofs.Common.{◌≡◌, ℕ, zero, suc, ◌+◌, ◌<◌, ◌≤◌, Bool, T, eqb, ltb, List, [], ◌∷◌, length, get_or, sym, refl, ◌∙◌, arith, eqb→eq, ltb→lt}
 use native.Mathlib.Decide.{dec_lt}
 use lib.ListN.{get_or-eq_default}
 use Rattle.tree.specs.Grammar.{form_at, fields_of, kinds, variants, places, allowed, form_in, kind_of}
@@ -54,9 +54,17 @@ counts_right : T (every count_right 0 counts)
 unfolding count_right counts rising kinds_from form_at form_in allowed places kind_of
 counts_right = tt
 
-pub count_at : (p : ℕ) → p < 26 → get_or counts p 0 ≡ length (rising p)
+count_within : (p : ℕ) → p < 26 → get_or counts p 0 ≡ length (rising p)
 unfolding count_right
-count_at p h = eqb→eq _ _ (at count_right counts counts_right p (in_counts p h))
+count_within p h = eqb→eq _ _ (at count_right counts counts_right p (in_counts p h))
+
+-- none past the last place
+pub count_at : (p : ℕ) → get_or counts p 0 ≡ length (rising p)
+unfolding counts
+count_at p = elim (dec_lt p 26) [
+  | yes g ↦ count_within p g
+  | no g ↦ get_or-eq_default counts 0 {n = p} (omega arith) ∙ no_count p (omega arith)
+]
 
 in_least : (p : ℕ) → p < 26 → p < length least
 unfolding least
@@ -69,9 +77,16 @@ least_right_lem : T (every least_right 0 least)
 unfolding least_right least shortest least_kind least_of kind_bytes form_bytes sort_bytes bytes_within better_from unknowns rising kinds_from form_at fields_of kinds variants form_in allowed places kind_of
 least_right_lem = tt
 
-pub least_at : (p : ℕ) → p < 26 → get_or least p 0 ≡ shortest p
+least_within : (p : ℕ) → p < 26 → get_or least p 0 ≡ shortest p
 unfolding least_right
-least_at p h = eqb→eq _ _ (at least_right least least_right_lem p (in_least p h))
+least_within p h = eqb→eq _ _ (at least_right least least_right_lem p (in_least p h))
+
+pub least_at : (p : ℕ) → get_or least p 0 ≡ shortest p
+unfolding least
+least_at p = elim (dec_lt p 26) [
+  | yes g ↦ least_within p g
+  | no g ↦ get_or-eq_default least 0 {n = p} (omega arith) ∙ no_shortest p (omega arith)
+]
 
 -- the i-th kind of a place
 kind_right : ℕ → ℕ → Bool

@@ -14,10 +14,7 @@ use tree::grammar;
 fn ended(left: usize, more: usize) -> bool
     ensures { result ≡ ends (nat_le left 1) more }
 {
-    if left <= 1 {
-        return true;
-    }
-    more == 0
+    left <= 1 || more == 0
 }
 
 // A kind, and the state after it.
@@ -33,39 +30,29 @@ fn choose(place: usize, left: usize, state: u32, more: usize) -> Choice
     let n = kinds::count(place);
     if n < 2 {
         let kind = kinds::kind(place, 0);
-        return Choice {
-            kind: kind,
-            state: state,
-        };
+        return Choice { kind, state };
     }
     if ended(left, more) {
         let kind = kinds::shortest_kind(place);
-        return Choice {
-            kind: kind,
-            state: state,
-        };
+        return Choice { kind, state };
     }
-    let x = crate::advanced(state);
-    let kind = kinds::kind(place, x as usize % n);
-    Choice {
-        kind: kind,
-        state: x,
-    }
+    let state = crate::advanced(state);
+    let kind = kinds::kind(place, state as usize % n);
+    Choice { kind, state }
 }
 
 // A text of one byte.
 fn text(out: &mut [u8], g: Pen) -> Pen
     ensures { page out.new result ≡ drew_piece out.old g.at (draw_text g.state g.more g.mark) }
 {
-    let x = crate::advanced(g.state);
-    let at = pen::put_wide(out, g.at, 1);
-    let end = pen::put(out, at, (97 + x % 26) as u8);
+    let state = crate::advanced(g.state);
+    let letter = pen::put_wide(out, g.at, 1);
+    let at = pen::put(out, letter, (97 + state % 26) as u8);
     Pen {
-        state: x,
-        more: g.more,
-        mark: g.mark,
-        at: end,
+        state,
+        at,
         value: 0,
+        ..g
     }
 }
 
@@ -74,104 +61,77 @@ fn byte(out: &mut [u8], low: u8, high: u8, g: Pen) -> Pen
     ensures { page out.new result ≡ drew_piece out.old g.at (draw_byte low high g.state g.more g.mark) }
 {
     if high <= low {
-        let end = pen::put(out, g.at, low);
+        let at = pen::put(out, g.at, low);
         return Pen {
-            state: g.state,
-            more: g.more,
-            mark: g.mark,
-            at: end,
+            at,
             value: low,
+            ..g
         };
     }
-    let x = crate::advanced(g.state);
-    let b = (low as usize + x as usize % ((high - low) as usize + 1)) as u8;
-    let end = pen::put(out, g.at, b);
+    let state = crate::advanced(g.state);
+    let value = (low as usize + state as usize % ((high - low) as usize + 1)) as u8;
+    let at = pen::put(out, g.at, value);
     Pen {
-        state: x,
-        more: g.more,
-        mark: g.mark,
-        at: end,
-        value: b,
+        state,
+        at,
+        value,
+        ..g
     }
 }
 
 fn mark(out: &mut [u8], g: Pen) -> Pen
     ensures { page out.new result ≡ drew_piece out.old g.at (draw_mark g.state g.more g.mark) }
 {
-    let end = pen::put_wide(out, g.at, g.mark);
+    let at = pen::put_wide(out, g.at, g.mark);
     Pen {
-        state: g.state,
-        more: g.more,
-        mark: std::num::wrapping_add_u16(g.mark, 1),
-        at: end,
+        mark: g.mark.wrapping_add(1),
+        at,
         value: 0,
+        ..g
     }
 }
 
 fn number(out: &mut [u8], g: Pen) -> Pen
     ensures { page out.new result ≡ drew_piece out.old g.at (draw_number g.state g.more g.mark) }
 {
-    let x = crate::advanced(g.state);
-    let end = pen::put_wide(out, g.at, (x % 65536) as u16);
+    let state = crate::advanced(g.state);
+    let at = pen::put_wide(out, g.at, (state % 65536) as u16);
     Pen {
-        state: x,
-        more: g.more,
-        mark: g.mark,
-        at: end,
+        state,
+        at,
         value: 0,
+        ..g
     }
-}
-
-fn fewer(n: usize) -> usize
-    ensures { result ≡ n - 1 }
-{
-    if 0 < n {
-        return n - 1;
-    }
-    0
 }
 
 // A node at a place, with `left` levels for it and what is below it.
-#[cycle(fields_items_node_slot)]
+#[cycle(drawing)]
 pub(crate) fn node(out: &mut [u8], place: usize, left: usize, g: Pen) -> Pen
     ensures { page out.new result ≡ drew_node out.old g.at (draw_node left place g.state g.more g.mark) }
 {
     if left == 0 {
-        let end = pen::put_wide(out, g.at, 0);
-        return Pen {
-            state: g.state,
-            more: g.more,
-            mark: g.mark,
-            at: end,
-            value: 0,
-        };
+        let at = pen::put_wide(out, g.at, 0);
+        return Pen { at, value: 0, ..g };
     }
     let c = choose(place, left - 1, g.state, g.more);
     let form = grammar::form_at(place, c.kind as usize);
     let row = grammar::row(form);
     let map = pen::put(out, g.at, c.kind);
     let at = pen::put(out, map, 0);
-    let more = fewer(g.more);
     let h = fields(
         out,
         row,
         left - 1,
         Pen {
             state: c.state,
-            more: more,
-            mark: g.mark,
-            at: at,
+            more: g.more.saturating_sub(1),
+            at,
             value: 0,
+            ..g
         },
     );
     pen::put(out, map, h.value);
-    Pen {
-        state: h.state,
-        more: h.more,
-        mark: h.mark,
-        at: h.at,
-        value: 0,
-    }
+    Pen { value: 0, ..h }
 }
 
 // Whether a field stands, and the state after that is settled.
@@ -187,57 +147,38 @@ fn settle(digit: usize, left: usize, state: u32, more: usize) -> Settled
     if digit / 512 == 0 {
         return Settled {
             stands: true,
-            state: state,
+            state,
         };
     }
     if ended(left, more) {
         return Settled {
             stands: false,
-            state: state,
+            state,
         };
     }
-    let x = crate::advanced(state);
+    let state = crate::advanced(state);
     Settled {
-        stands: x % 2 == 1,
-        state: x,
+        stands: state % 2 == 1,
+        state,
     }
 }
 
 // The fields of a row, which hand on their bit map.
-#[cycle(fields_items_node_slot)]
+#[cycle(drawing)]
 fn fields(out: &mut [u8], row: usize, left: usize, g: Pen) -> Pen
     ensures { page out.new result ≡ drew_fields out.old g.at (draw_fields (draw_node left) (nat_le left 1) (fields_in_of row) g.value g.state g.more g.mark) }
 {
     if row == 0 {
-        return Pen {
-            state: g.state,
-            more: g.more,
-            mark: g.mark,
-            at: g.at,
-            value: 0,
-        };
+        return Pen { value: 0, ..g };
     }
     let t = settle(row % 1024, left, g.state, g.more);
+    let state = t.state;
     if t.stands {
-        let h = slot(
-            out,
-            row % 512,
-            left,
-            Pen {
-                state: t.state,
-                more: g.more,
-                mark: g.mark,
-                at: g.at,
-                value: g.value,
-            },
-        );
+        let h = slot(out, row % 512, left, Pen { state, ..g });
         let i = fields(out, row / 1024, left, h);
         return Pen {
-            state: i.state,
-            more: i.more,
-            mark: i.mark,
-            at: i.at,
             value: 1 + 2 * (i.value % 128),
+            ..i
         };
     }
     let i = fields(
@@ -245,24 +186,19 @@ fn fields(out: &mut [u8], row: usize, left: usize, g: Pen) -> Pen
         row / 1024,
         left,
         Pen {
-            state: t.state,
-            more: g.more,
-            mark: g.mark,
-            at: g.at,
+            state,
             value: 0,
+            ..g
         },
     );
     Pen {
-        state: i.state,
-        more: i.more,
-        mark: i.mark,
-        at: i.at,
         value: 2 * (i.value % 128),
+        ..i
     }
 }
 
 // A field by its code.
-#[cycle(fields_items_node_slot)]
+#[cycle(drawing)]
 fn slot(out: &mut [u8], code: usize, left: usize, g: Pen) -> Pen
     ensures { page out.new result ≡ drew_piece out.old g.at (draw_field (draw_node left) (nat_le left 1) g.value (sort_of code) g.state g.more g.mark) }
 {
@@ -289,33 +225,25 @@ fn slot(out: &mut [u8], code: usize, left: usize, g: Pen) -> Pen
 }
 
 // A list.
-#[cycle(fields_items_node_slot)]
+#[cycle(drawing)]
 fn items(out: &mut [u8], place: usize, left: usize, g: Pen) -> Pen
     ensures { page out.new result ≡ drew_piece out.old g.at (mapped list (draw_list (draw_node left place) (nat_le left 1) g.state g.more g.mark)) }
 {
     if ended(left, g.more) {
-        let end = pen::put_wide(out, g.at, 0);
-        return Pen {
-            state: g.state,
-            more: g.more,
-            mark: g.mark,
-            at: end,
-            value: 0,
-        };
+        let at = pen::put_wide(out, g.at, 0);
+        return Pen { at, value: 0, ..g };
     }
-    let x = crate::advanced(g.state);
-    let mut n = x % 4;
-    let end = pen::put_wide(out, g.at, n as u16);
+    let state = crate::advanced(g.state);
+    let n = state % 4;
+    let at = pen::put_wide(out, g.at, n as u16);
     let mut h = Pen {
-        state: x,
-        more: g.more,
-        mark: g.mark,
-        at: end,
+        state,
+        at,
         value: 0,
+        ..g
     };
-    while 0 < n {
+    for _ in 0..n {
         h = node(out, place, left, h);
-        n -= 1;
     }
     h
 }

@@ -31,35 +31,24 @@ const LEAST: [u8; 26] = [
     42, 44,
 ];
 
-fn wide(x: u8) -> usize
-    ensures { result ≡ x }
-{
-    x as usize
-}
-
 pub(crate) fn count(place: usize) -> usize
     ensures { result ≡ length (rising place) }
 {
-    if place < 26 {
-        return wide(COUNTS[place]);
-    }
-    0
+    COUNTS.get(place).copied().unwrap_or(0) as usize
 }
 
 pub(crate) fn kind(place: usize, i: usize) -> u8
     ensures { result ≡ slice_index (rising place) i }
 {
     if i < count(place) {
-        return KINDS[wide(FIRSTS[place]) + i];
+        KINDS[FIRSTS[place] as usize + i]
+    } else {
+        0
     }
-    0
 }
 
 pub(crate) fn shortest_kind(place: usize) -> u8
     ensures { result ≡ shortest place }
 {
-    if place < 26 {
-        return LEAST[place];
-    }
-    0
+    LEAST.get(place).copied().unwrap_or(0)
 }

@@ -7,7 +7,7 @@ pub mod pen;
 
 ghost use Rattle.std.specs.Prelude.{◌≡◌, length};
 ghost use Rattle.drawing.specs.Xorshift.{step};
-ghost use Rattle.drawing.specs.Outcome.{handed, outcome};
+ghost use Rattle.drawing.specs.Outcome.{handed, outcome, told};
 
 use pen::Pen;
 
@@ -41,10 +41,12 @@ const LEVELS: usize = 13;
 
 const MOST: usize = 400;
 
-// A zero seed, and a tree that is longer than the slice.
-const ZERO_SEED: u8 = 8;
-
-const SLICE_TOO_SHORT: u8 = 7;
+// Why no tree is drawn, by the numbers of the answers for C.
+#[derive(Clone, Copy, Debug, PartialEq, Eq)]
+enum Refusal {
+    SliceTooShort = 7,
+    ZeroSeed = 8,
+}
 
 // Answer 0, the state after the tree and the length of the tree; or the refusal, and 0.
 #[repr(C)]
@@ -55,42 +57,43 @@ pub struct Drawn {
     pub tree_len: usize,
 }
 
+// The pen behind the tree of a seed, with zeros behind it; zeros alone on a refusal.
+fn drawn_into(seed: u32, tree_out: &mut [u8]) -> Result<Pen, Refusal>
+    ensures { told result tree_out.new ≡ outcome seed (length tree_out.old) }
+{
+    tree_out.fill(0);
+    if seed == 0 {
+        return Err(Refusal::ZeroSeed);
+    }
+    let start = Pen {
+        state: seed,
+        more: MOST,
+        mark: 1,
+        at: 0,
+        value: 0,
+    };
+    let end = draw::node(tree_out, 0, LEVELS, start);
+    if tree_out.len() < end.at {
+        tree_out.fill(0);
+        return Err(Refusal::SliceTooShort);
+    }
+    Ok(end)
+}
+
 // Request 2's entry: the tree of a seed, then zeros. Any seed, a slice of any length.
 pub fn rest_spread_draw(seed: u32, tree_out: &mut [u8]) -> Drawn
     ensures { handed result tree_out.new ≡ outcome seed (length tree_out.old) }
 {
-    if seed == 0 {
-        pen::clear(tree_out);
-        return Drawn {
-            answer: ZERO_SEED,
-            next: 0,
-            tree_len: 0,
-        };
-    }
-    pen::clear(tree_out);
-    let g = draw::node(
-        tree_out,
-        0,
-        LEVELS,
-        Pen {
-            state: seed,
-            more: MOST,
-            mark: 1,
-            at: 0,
-            value: 0,
+    match drawn_into(seed, tree_out) {
+        Ok(end) => Drawn {
+            answer: 0,
+            next: end.state,
+            tree_len: end.at,
         },
-    );
-    if tree_out.len() < g.at {
-        pen::clear(tree_out);
-        return Drawn {
-            answer: SLICE_TOO_SHORT,
+        Err(refusal) => Drawn {
+            answer: refusal as u8,
             next: 0,
             tree_len: 0,
-        };
-    }
-    Drawn {
-        answer: 0,
-        next: g.state,
-        tree_len: g.at,
+        },
     }
 }

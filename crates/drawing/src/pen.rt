@@ -3,8 +3,6 @@ ghost use Rattle.std.specs.Prelude.{◌≡◌, length, replicate, slice_set};
 ghost use Rattle.drawing.specs.Pen.{next, put, reach};
 ghost use Rattle.tree.specs.Tree.{wide_bytes};
 
-use tree::bytes;
-
 // The generator's state, how many nodes are still to be begun before all is cut short, the next mark, the position; and what
 // was drawn last hands on: a field its byte, fields their bit map.
 #[derive(Clone, Copy)]
@@ -24,10 +22,7 @@ pub fn put(out: &mut [u8], at: usize, b: u8) -> usize
         out[at] = b;
         return at + 1;
     }
-    if at == out.len() {
-        return at + 1;
-    }
-    at
+    if at == out.len() { at + 1 } else { at }
 }
 
 // A 16-bit number, little-endian. Returns the next position.
@@ -42,5 +37,5 @@ pub fn put_wide(out: &mut [u8], at: usize, n: u16) -> usize
 pub fn clear(s: &mut [u8])
     ensures { s.new ≡ replicate (length s.old) 0 }
 {
-    bytes::clear(s);
+    s.fill(0);
 }

@@ -3,7 +3,7 @@
 use mathlib.Core.Path.{◌≡◌, refl, sym, ap, ap₂, ◌∙◌, subst}
 use mathlib.Core.Bool.{Bool, true, false, cond, not}
 use mathlib.Core.List.{List, [], ◌∷◌, ◌++◌}
-use mathlib.Core.Option.{Option}
+use Rattle.std.specs.Prelude.{Option, Some, None}
 use Prim.Native.Nat.{ℕ, zero, suc, ◌+◌, ◌-◌, ◌/◌, ◌%◌, ◌≤◌, ◌<◌}
 use native.Mathlib.Omega.{arith}
 use lib.Dec.{eqb}
@@ -30,6 +30,7 @@ use Rattle.sink.specs.Machine.{part}
 use Rattle.sink.specs.Machine.Event.{temporary}
 use Rattle.pattern.specs.Tally.{limited}
 use Rattle.pattern.specs.declared.source.ReferenceBuilder.{ReferenceBuilder}
+use Rattle.pattern.specs.declared.source.ReferenceBuilder.TheVariants.{Direct, Wanted, Held}
 use Rattle.pattern.specs.Source.{Given, builder_of, read_of, place_read, after_read, Settled, Keeps}
 use Rattle.pattern.proofs.SourceReads.{first_read, later_read, name_settled, settled_read}
 use Rattle.walk.proofs.SourcesRead.{same_source, reads_cell}
@@ -53,9 +54,7 @@ use Rattle.walk.specs.declared.modes.Mode.TheVariants as modes
 use Rattle.walk.specs.declared.views.View.TheVariants.{Replacing, Taking}
 use Rattle.walk.specs.Run.{Going, Does, Clear}
 use Rattle.walk.specs.Whole.{GoodItems, Good}
-use Rattle.walk.specs.Turns.{view_of, turns_of, source_of, reads, start_of, start_value, cell_at, deep_suits, deep_of}
-use Rattle.walk.specs.declared.look.Start.{Start}
-use Rattle.walk.specs.declared.look.Start.TheVariants.{Value, Missing}
+use Rattle.walk.specs.Turns.{view_of, turns_of, source_of, reads, start_of, cell_at, deep_suits, deep_of}
 use Rattle.walk.proofs.Running.{does_then, does_nothing, does_as, does_to, clear_after, clear_still}
 use Rattle.walk.proofs.KeysOnceFull as walked
 use Rattle.walk.proofs.KeysOnceFull.{Quiet, own_again}
@@ -65,7 +64,6 @@ use Rattle.walk.proofs.Opened.{BinderOpen, DeclarationOpen, no_good, kind_here, 
 use Rattle.walk.proofs.ListTurns.{deep_found, turns_key_value, turns_value_found, turns_declarator, suit_key_value, suit_value_found, suit_declarator}
 use Rattle.emit.proofs.MovedPatterns.{as_refused}
 use Rattle.emit.proofs.Finding.{object_as, level_up, lifted, rest_stands, Turned, Deep}
-use Rattle.lowering.proofs.Cases.{not-false, not-true}
 
 -- ---- places
 
@@ -324,17 +322,29 @@ module _ (t : List ℕ) where
   name_copied c zero at good h = no_good t at good
   name_copied c (suc d) at good h = ap (λ (bs : List ℕ). say (puts bs)) (good_copied t (suc d) at good) ∙ sym (name_emits c d at (name_kind_lem d at good h))
 
-  wanted_is : (d at k : ℕ) → (builder_of t d at k 3 false).wanted ≡ not (is_name_of (look_node t d at).value)
+  -- a value that is no name is wanted in a temporary
+  value_wanted : (d at k : ℕ) → is_name_of (look_node t d at).value ≡ false → builder_of t d at k 3 false ≡ Wanted d at k 3
   unfolding builder_of
-  wanted_is d at k = refl
+  value_wanted d at k h = rw h refl
 
-  builder_cell : (d at k : ℕ) → (builder_of t d at k 3 false).cell ≡ k
+  name_direct : (d at k : ℕ) → is_name_of (look_node t d at).value ≡ true → builder_of t d at k 3 false ≡ Direct d at
   unfolding builder_of
-  builder_cell d at k = refl
+  name_direct d at k h = rw h refl
 
-  builder_stem : (d at k : ℕ) → (builder_of t d at k 3 false).stem ≡ 3
-  unfolding builder_of
-  builder_stem d at k = refl
+  abbrev is_wanted : ReferenceBuilder → ℕ
+  is_wanted (Direct left at) = 0
+  is_wanted (Wanted left at cell stem) = 1
+  is_wanted (Held cell stem) = 0
+
+  abbrev cell_in : ReferenceBuilder → ℕ
+  cell_in (Direct left at) = 0
+  cell_in (Wanted left at cell stem) = cell
+  cell_in (Held cell stem) = cell
+
+  abbrev stem_in : ReferenceBuilder → ℕ
+  stem_in (Direct left at) = 0
+  stem_in (Wanted left at cell stem) = stem
+  stem_in (Held cell stem) = stem
 
   source_name : (d at k : ℕ) → is_name_of (look_node t d at).value ≡ true → source_of t (builder_of t d at k 3 false) ≡ say (puts (part at (look_node t d at).next t))
   unfolding builder_of read_of reads
@@ -343,36 +353,37 @@ module _ (t : List ℕ) where
   source_after : (d at k : ℕ) → is_name_of (look_node t d at).value ≡ false → source_of t (after_read (builder_of t d at k 3 false)) ≡ say (does (temporary k 3) ∷ [])
   source_after d at k h = reads_cell t _ k 3 (later_read t d at k 3 h)
 
-  pub lowered_read : {g g₁ g' : Going} (c : Place) (d id init i : ℕ) (b : ReferenceBuilder) → b.wanted ≡ false → g₁ ≡ g → i ≡ id
+  pub lowered_read : {g g₁ g' : Going} (c : Place) (d id init i : ℕ) (b : ReferenceBuilder) → ((l m k s : ℕ) → b ≡ Wanted l m k s → ⊥) → g₁ ≡ g → i ≡ id
       → (Settled b → Good t d i → Does g₁ g' (emits_pattern c (look_node t d i).value (source_of t b)))
       → b ≡ builder_of t d init (cell 3 id) 3 false → Good t d id → Good t d init → Does g g' (emits_lowered c (look_node t d id).value (look_node t d init).value)
   lowered_read c d id init i b test from move pattern built good-id good-init =
       let p : Node = (look_node t d id).value in
       let v : Node = (look_node t d init).value in
-      let named : is_name_of v ≡ true = not-false (is_name_of v) (sym (wanted_is d init (cell 3 id)) ∙ ap (λ (x : ReferenceBuilder). x.wanted) (sym built) ∙ test) in
+      let named : is_name_of v ≡ true = by_test (is_name_of v) (λ e. e) (λ e. absurd (test _ _ _ _ (built ∙ value_wanted d init (cell 3 id) e))) in
       let read : source_of t b ≡ emits (inner c) v = ap (source_of t) built ∙ source_name d init (cell 3 id) named ∙ name_copied (inner c) d init good-init named in
       let settled : Settled b = subst (λ (x : ReferenceBuilder). Settled x) (sym built) (name_settled t d init (cell 3 id) 3 named) in
       does_as (does_from from (pattern settled (subst (λ (y : ℕ). Good t d y) (sym move) good-id)))
       (ap₂ (λ (y : ℕ) (s : Emit). emits_pattern c (look_node t d y).value s) move read ∙ sym (lowered_name c p v named))
 
-  pub lowered_kept : {g g₁ g₂ g₃ g₄ g₅ g' : Going} (c c' : Place) (d h id init y x u i : ℕ) (r : Given) (b a : ReferenceBuilder) → b.wanted ≡ true
-      → Does g g₁ (say (puts (5 ∷ 3 ∷ []))) → Does g₁ g₂ (say (does (temporary b.cell b.stem) ∷ [])) → g₃ ≡ g₂ → y ≡ x → x ≡ place_read r → r ≡ read_of b → c' ≡ inner c → h ≡ d
+  pub lowered_kept : {g g₁ g₂ g₃ g₄ g₅ g' : Going} (c c' : Place) (d h id init y x u i l m k s : ℕ) (r : Given) (b a : ReferenceBuilder) → b ≡ Wanted l m k s
+      → Does g g₁ (say (puts (5 ∷ 3 ∷ []))) → Does g₁ g₂ (say (does (temporary k s) ∷ [])) → g₃ ≡ g₂ → y ≡ x → x ≡ place_read r → r ≡ read_of b → c' ≡ inner c → h ≡ d
       → (u ≡ (look_node t h y).next) × (Good t h y → Does g₃ g₄ (emits c' (look_node t h y).value))
       → a ≡ after_read b → g₅ ≡ g₄ → i ≡ id → (Settled a → Good t d i → Does g₅ g' (emits_pattern c (look_node t d i).value (source_of t a)))
       → b ≡ builder_of t d init (cell 3 id) 3 false → Good t d id → Good t d init → Does g g' (emits_lowered c (look_node t d id).value (look_node t d init).value)
   unfolding says_cell place_read
-  lowered_kept c c' d h id init y x u i r b a test head kept from at_x stands reading place same-level given next again at-id pattern built good-id good-init =
+  lowered_kept c c' d h id init y x u i l m k s r b a test head kept from at_x stands reading place same-level given next again at-id pattern built good-id good-init =
       let p : Node = (look_node t d id).value in
       let v : Node = (look_node t d init).value in
-      let named : is_name_of v ≡ false = not-true (is_name_of v) (sym (wanted_is d init (cell 3 id)) ∙ ap (λ (x : ReferenceBuilder). x.wanted) (sym built) ∙ test) in
+      let named : is_name_of v ≡ false = by_test (is_name_of v) (λ e. let z : ◌≡◌ {A = ℕ} 1 0 = ap is_wanted (sym test ∙ built ∙ name_direct d init (cell 3 id) e) in absurd (omega arith)) (λ e. e) in
+      let wanted : Wanted l m k s ≡ Wanted d init (cell 3 id) 3 = sym test ∙ built ∙ value_wanted d init (cell 3 id) named in
       let at-init : y ≡ init = at_x ∙ stands ∙ ap place_read (reading ∙ ap read_of built ∙ first_read t d init (cell 3 id) 3 false) in
-      let cell_is : b.cell ≡ cell 3 (position p) = ap (λ (x : ReferenceBuilder). x.cell) built ∙ builder_cell d init (cell 3 id) ∙ ap (cell 3) (sym (position_here t d id)) in
-      let stem-is : b.stem ≡ 3 = ap (λ (x : ReferenceBuilder). x.stem) built ∙ builder_stem d init (cell 3 id) in
+      let cell_is : k ≡ cell 3 (position p) = ap cell_in wanted ∙ ap (cell 3) (sym (position_here t d id)) in
+      let stem-is : s ≡ 3 = ap stem_in wanted in
       let read : source_of t a ≡ says_cell 3 (position p) =
       ap (source_of t) (next ∙ ap after_read built) ∙ source_after d init (cell 3 id) named ∙ ap (λ (k : ℕ). say (does (temporary (cell 3 k) 3) ∷ [])) (sym (position_here t d id)) in
       let value_done = given.1 (subst (λ (k : ℕ). Good t h k) (sym at-init) (subst (λ (k : ℕ). Good t k init) (sym same-level) good-init)) in
       let pattern_done = pattern (settled_read b a next) (subst (λ (k : ℕ). Good t d k) (sym at-id) good-id) in
-      let kept-3 = does_as kept (ap (λ (k : ℕ). say (does (temporary b.cell k) ∷ [])) stem-is) in
+      let kept-3 = does_as kept (ap (λ (z : ℕ). say (does (temporary k z) ∷ [])) stem-is) in
       does_as (does_then head (does_then kept-3 (does_then (does_from from value_done) (does_from again pattern_done))))
       (ap₂ (λ (k : ℕ) (w : Node). say (puts (5 ∷ 3 ∷ [])) ▷ say (does (temporary k 3) ∷ []) ▷ emits c' w ▷ emits_pattern c (look_node t d i).value (source_of t a)) cell_is (ap₂ (λ (m k : ℕ). (look_node t m k).value) same-level at-init)
       ∙ ap (λ (m : Place). say (puts (5 ∷ 3 ∷ [])) ▷ says_cell 3 (position p) ▷ emits m v ▷ emits_pattern c (look_node t d i).value (source_of t a)) place
@@ -394,23 +405,23 @@ module _ (t : List ℕ) where
   -- ---- dtor: a declarator
 
   -- one without a starting value, one with it
-  bare_declarator : (d at : ℕ) (s : Start) → start_value s ≡ start_of t (suc d) at → s ≡ Missing → eqb (byte_at t (onward t at 1) / 2 % 2) 1 ≡ false
+  bare_declarator : (d at : ℕ) (s : Option ℕ) → s ≡ start_of t (suc d) at → s ≡ None → eqb (byte_at t (onward t at 1) / 2 % 2) 1 ≡ false
   unfolding start_of
-  bare_declarator d at s e f = go (eqb (byte_at t (onward t at 1) / 2 % 2) 1) (sym e ∙ ap start_value f)
+  bare_declarator d at s e f = go (eqb (byte_at t (onward t at 1) / 2 % 2) 1) (sym e ∙ f)
     where
-      go : (b : Bool) → cond b (Option.some (look_node t d (onward t at 2)).next) Option.none ≡ Option.none → b ≡ false
+      go : (b : Bool) → cond b (Some (look_node t d (onward t at 2)).next) None ≡ None → b ≡ false
       go true h = let z : ◌≡◌ {A = ℕ} 0 1 = cc in absurd (omega arith)
       go false h = refl
 
   abbrev value_in : Option ℕ → ℕ
-  value_in (Option.some n) = n
-  value_in Option.none = 0
+  value_in (Some n) = n
+  value_in None = 0
 
-  valued_declarator : (d at init : ℕ) (s : Start) → start_value s ≡ start_of t (suc d) at → s ≡ Value init → (eqb (byte_at t (onward t at 1) / 2 % 2) 1 ≡ true) × (init ≡ (look_node t d (onward t at 2)).next)
+  valued_declarator : (d at init : ℕ) (s : Option ℕ) → s ≡ start_of t (suc d) at → s ≡ Some init → (eqb (byte_at t (onward t at 1) / 2 % 2) 1 ≡ true) × (init ≡ (look_node t d (onward t at 2)).next)
   unfolding start_of
-  valued_declarator d at init s e f = go (eqb (byte_at t (onward t at 1) / 2 % 2) 1) (sym e ∙ ap start_value f)
+  valued_declarator d at init s e f = go (eqb (byte_at t (onward t at 1) / 2 % 2) 1) (sym e ∙ f)
     where
-      go : (b : Bool) → cond b (Option.some (look_node t d (onward t at 2)).next) Option.none ≡ Option.some init → (b ≡ true) × (init ≡ (look_node t d (onward t at 2)).next)
+      go : (b : Bool) → cond b (Some (look_node t d (onward t at 2)).next) None ≡ Some init → (b ≡ true) × (init ≡ (look_node t d (onward t at 2)).next)
       go true h = (refl, ap value_in (sym h))
       go false h = let z : ◌≡◌ {A = ℕ} 0 1 = cc in absurd (omega arith)
 
@@ -422,7 +433,7 @@ module _ (t : List ℕ) where
   unfolding is_lowered stands stands_in node_at_of piece_in
   valued_lowered at k p v = refl
 
-  pub declarator_bare : {g g' : Going} (c c' : Place) (d h at s : ℕ) (w : Start) → start_value w ≡ start_of t d at → w ≡ Missing → c' ≡ inner c → h ≡ d
+  pub declarator_bare : {g g' : Going} (c c' : Place) (d h at s : ℕ) (w : Option ℕ) → w ≡ start_of t d at → w ≡ None → c' ≡ inner c → h ≡ d
       → (s ≡ (look_node t h at).next) × (Good t h at → Does g g' (emits c' (look_node t h at).value))
       → byte_at t at ≡ 5 → Good t d at → (s ≡ (look_node t d at).next) × Does g g' (emits_declarator c (look_node t d at).value)
   declarator_bare c c' zero h at s w start none place same-level given k good = no_good t at good
@@ -435,7 +446,7 @@ module _ (t : List ℕ) where
             (ap₂ (λ (m : Place) (y : ℕ). emits m (look_node t y at).value) place same-level ∙ sym (declarator_left n c left)),
       )
 
-  pub declarator_stays : {g g' : Going} (c c' : Place) (d left h at init id s : ℕ) (w : Start) (b : Bool) → left ≡ d - 1 → id ≡ onward t at 2 → start_value w ≡ start_of t d at → w ≡ Value init
+  pub declarator_stays : {g g' : Going} (c c' : Place) (d left h at init id s : ℕ) (w : Option ℕ) (b : Bool) → left ≡ d - 1 → id ≡ onward t at 2 → w ≡ start_of t d at → w ≡ Some init
       → b ≡ has_object_rest (look_node t left id).value → b ≡ false → c' ≡ inner c → h ≡ d
       → (s ≡ (look_node t h at).next) × (Good t h at → Does g g' (emits c' (look_node t h at).value))
       → byte_at t at ≡ 5 → Good t d at → (s ≡ (look_node t d at).next) × Does g g' (emits_declarator c (look_node t d at).value)
@@ -452,14 +463,10 @@ module _ (t : List ℕ) where
             (ap₂ (λ (m : Place) (y : ℕ). emits m (look_node t y at).value) place same-level ∙ sym (declarator_left n c left_is)),
       )
 
-  builder_at : (d at k : ℕ) → (builder_of t d at k 3 false).at ≡ at
-  unfolding builder_of
-  builder_at d at k = refl
-
-  pub declarator_done : {g g₁ g' : Going} (c c' : Place) (d left e at init id q k₃ s : ℕ) (w : Start) (b : Bool) (r : ReferenceBuilder) → left ≡ d - 1 → id ≡ onward t at 2 → start_value w ≡ start_of t d at → w ≡ Value init
+  pub declarator_done : {g g₁ g' : Going} (c c' : Place) (d left e at init id q k₃ s : ℕ) (w : Option ℕ) (b : Bool) (r : ReferenceBuilder) → left ≡ d - 1 → id ≡ onward t at 2 → w ≡ start_of t d at → w ≡ Some init
       → b ≡ has_object_rest (look_node t left id).value → b ≡ true → q ≡ (look_node t left init).next
       → k₃ ≡ cell_at 3 id → r ≡ builder_of t left init k₃ 3 false → c' ≡ c → e ≡ left
-      → (r ≡ builder_of t e r.at (cell 3 id) 3 false → Good t e id → Good t e r.at → Does g g₁ (emits_lowered c' (look_node t e id).value (look_node t e r.at).value))
+      → (r ≡ builder_of t e init (cell 3 id) 3 false → Good t e id → Good t e init → Does g g₁ (emits_lowered c' (look_node t e id).value (look_node t e init).value))
       → g' ≡ g₁ → s ≡ q
       → byte_at t at ≡ 5 → Good t d at → (s ≡ (look_node t d at).next) × Does g g' (emits_declarator c (look_node t d at).value)
   declarator_done {g = g} {g₁ = g₁} c c' d left e at init id q k₃ s w b r levels second start some test yes-rest next cell_is built place level lowers upto moved k good =
@@ -478,9 +485,7 @@ module _ (t : List ℕ) where
       let small : id < 16384 = omega arith in
       let low : is_lowered n ≡ true =
       ap (λ (y : Seen Node). is_lowered y.value) whole ∙ valued_lowered at 5 p x ∙ ap₂ (λ (y z : ℕ). has_object_rest (look_node t y z).value) level (sym second) ∙ sym test ∙ yes-rest in
-      let placed : r.at ≡ init = ap (λ (y : ReferenceBuilder). y.at) built ∙ builder_at left init k₃ in
-      let lowers_at = subst (λ (y : ℕ). r ≡ builder_of t e y (cell 3 id) 3 false → Good t e id → Good t e y → Does g g₁ (emits_lowered c' (look_node t e id).value (look_node t e y).value)) placed lowers in
-      let does-it = lowers_at (built ∙ ap₂ (λ (y z : ℕ). builder_of t y init z 3 false) (sym level) (cell_within _ _ _ cell_is small)) (subst (λ (y : ℕ). Good t e y) (sym second) o.pattern) (subst (λ (y : ℕ). Good t e y) (sym v.1) (o.value v.0)) in (
+      let does-it = lowers (built ∙ ap₂ (λ (y z : ℕ). builder_of t y init z 3 false) (sym level) (cell_within _ _ _ cell_is small)) (subst (λ (y : ℕ). Good t e y) (sym second) o.pattern) (subst (λ (y : ℕ). Good t e y) (sym v.1) (o.value v.0)) in (
         moved ∙ next ∙ ap₂ (λ (y z : ℕ). (look_node t y z).next) (sym level) v.1 ∙ ap (λ (y : Seen Node). y.next) (sym whole),
         does_to upto (does_as does-it
             (ap₂ (λ (y z : Node). emits_lowered c' y z) id-as init-as

@@ -1,3 +1,4 @@
+pub mod Refusing
 pub mod MovesFit
 pub mod Excluding
 pub mod Finding

@@ -1,22 +1,8 @@
-// The lowering: a node of the input is written as it is walked. The functions call one another, and the prover puts the names of all of
-// them into one, so they are short:
+// The lowering: a node of the input is written as it is walked, from `node` on. The functions call one another, so they have one proof.
 //
-// node                       a node, by its kind
-// plain fs slot items item   as it stands: its fields, one of them, a list, an item of it
-// lit ps pt                  a literal with spreads: its properties, one of them
-// seq turn                   a list by a mode, one of its items
-// view vo va prop key        a pattern in a view: object, array, property, key
-// rest read keys ek kv       the value of a rest: the keys that are left out, their array, one of them; the value of a key's temporary
-// deep db fb da vl           what is below a pattern: in an object, the declarators found there, in an array, in a property's value
-// decl dr lo pa own oa os    a declaration: declarator, value, pattern; an object's keys with its pattern, its pattern, its rest
-// ag an top gv tg ns pr      an assignment: to a target; to an object with rest: value, target, nested ones; properties by a mode
-// bi go ba mv add            a parameter or declarator whose pattern is moved out, what stays of it, new statements in front
-// fun ar eb ca body bl       function, arrow and its body, catch; a body or a block with new statements in front
-// head dh th tb ta           a for head: one that declares, one that assigns; its body, the statement in front
-//
-// Whether the scope is the root is looked up once, `at_root` of `walk::place`, where the walk comes to an assignment (`ag`) or a declaration
-// (`decl`), and where one is put into a body (`ta`, `add`). The code for its rests, keys and parts is told the answer, `root`, and its contract
-// holds for either: `place_with root c` reads nothing of the root of c. What is walked inside asks for itself.
+// Whether the scope is the root is looked up once, `at_root` of `walk::place`, where the walk comes to an assignment or a declaration, and
+// where one is put into a body (`target_statement`, `front`). The code for its rests, keys and parts is told the answer, `root`, and its
+// contract holds for either: `place_with root c` reads nothing of the root of c. What is walked inside asks for itself.
 #![tactic(auto)]
 
 ghost use Rattle.std.specs.Prelude.{◌≡◌, true, false, ◌||◌, [], eqb, ◌-◌, ◌<◌};
@@ -66,7 +52,7 @@ use walk::hand::{
 };
 use walk::literal::{has_first, has_spread, is_spread, opening, pending, run_of};
 use walk::look::{
-    KeyClass, Start, cell, enters_arrays, first_bit, has_second, hoisted, is_other, item_mode,
+    KeyClass, cell, enters_arrays, first_bit, has_second, hoisted, is_other, item_mode,
     key_sort, level, moved_in, replaces, second, start_of,
 };
 use walk::modes::{Deep, Mode};
@@ -107,7 +93,7 @@ const ASSIGNS: u8 = 1;
 const REST_BELOW_ARRAY_REST: u8 = 5;
 
 // A node: one in which nothing is to be lowered is copied whole.
-#[cycle(add_ag_an_ar_ba_bi_bl_body_ca_da_db_decl_deep_dh_dr_eb_ek_fb_fs_fun_go_gv_head_item_items_key_keys_kv_lit_lo_mv_node_ns_oa_os_own_pa_plain_pr_prop_ps_pt_read_rest_seq_slot_ta_tb_tg_th_top_turn_va_view_vl_vo)]
+#[cycle(writing)]
 pub fn node(w: Walk, t: &[u8], out: &mut [u8], list: &mut [u8], work: &mut [u8], c: Place) -> Walk
     ensures { (result.at ≡ (look_node t.now c.left w.at).next) × (Good t.now c.left w.at → Does (going_of out.old list.old work.old w) (going_of out.new list.new work.new result) (emits (place_of c) (look_node t.now c.left w.at).value)) }
 {
@@ -116,21 +102,21 @@ pub fn node(w: Walk, t: &[u8], out: &mut [u8], list: &mut [u8], work: &mut [u8],
     }
     let kind = peek(t, w.at);
     match kind {
-        kinds::DECLARATION => decl(w, t, out, list, work, c),
-        kinds::FOR_IN => head(w, t, out, list, work, c),
-        kinds::FOR_OF => head(w, t, out, list, work, c),
-        kinds::CATCH => ca(w, t, out, list, work, c),
-        kinds::FUNCTION => fun(w, t, out, list, work, c),
-        kinds::ARROW => ar(w, t, out, list, work, c),
-        kinds::OBJECT => lit(w, t, out, list, work, c),
-        kinds::ASSIGNMENT => ag(w, t, out, list, work, c),
+        kinds::DECLARATION => declaration(w, t, out, list, work, c),
+        kinds::FOR_IN => loop_head(w, t, out, list, work, c),
+        kinds::FOR_OF => loop_head(w, t, out, list, work, c),
+        kinds::CATCH => catch_clause(w, t, out, list, work, c),
+        kinds::FUNCTION => function(w, t, out, list, work, c),
+        kinds::ARROW => arrow(w, t, out, list, work, c),
+        kinds::OBJECT => literal(w, t, out, list, work, c),
+        kinds::ASSIGNMENT => assignment(w, t, out, list, work, c),
         _ => plain(w, t, out, list, work, c),
     }
 }
 
 // A literal.
-#[cycle(add_ag_an_ar_ba_bi_bl_body_ca_da_db_decl_deep_dh_dr_eb_ek_fb_fs_fun_go_gv_head_item_items_key_keys_kv_lit_lo_mv_node_ns_oa_os_own_pa_plain_pr_prop_ps_pt_read_rest_seq_slot_ta_tb_tg_th_top_turn_va_view_vl_vo)]
-fn lit(w: Walk, t: &[u8], out: &mut [u8], list: &mut [u8], work: &mut [u8], c: Place) -> Walk
+#[cycle(writing)]
+fn literal(w: Walk, t: &[u8], out: &mut [u8], list: &mut [u8], work: &mut [u8], c: Place) -> Walk
     ensures { byte_at t.now w.at ≡ 24 → (result.at ≡ (look_node t.now c.left w.at).next) × (Good t.now c.left w.at → Does (going_of out.old list.old work.old w) (going_of out.new list.new work.new result) (emits (place_of c) (look_node t.now c.left w.at).value)) }
 {
     if has_spread(t, c.left, w.at) {
@@ -139,14 +125,14 @@ fn lit(w: Walk, t: &[u8], out: &mut [u8], list: &mut [u8], work: &mut [u8], c: P
         let n = wide_at(t, q);
         let left = less(c.left);
         let v = opening(w, t, out, left, n, first).to(first);
-        return ps(v, t, out, list, work, inside(c, left), n).to(skip(t, c.left, w.at));
+        return properties(v, t, out, list, work, inside(c, left), n).to(skip(t, c.left, w.at));
     }
     plain(w, t, out, list, work, c)
 }
 
 // The properties of a literal with spreads.
-#[cycle(add_ag_an_ar_ba_bi_bl_body_ca_da_db_decl_deep_dh_dr_eb_ek_fb_fs_fun_go_gv_head_item_items_key_keys_kv_lit_lo_mv_node_ns_oa_os_own_pa_plain_pr_prop_ps_pt_read_rest_seq_slot_ta_tb_tg_th_top_turn_va_view_vl_vo)]
-fn ps(
+#[cycle(writing)]
+fn properties(
     w: Walk,
     t: &[u8],
     out: &mut [u8],
@@ -158,17 +144,15 @@ fn ps(
     ensures { (result.at ≡ (look_items t.now (look_node t.now c.left) false count w.at).next) × (count < 65536 → GoodItems t.now (look_node t.now c.left) (Good t.now c.left) false false count w.at → Does (going_of out.old list.old work.old w) (going_of out.new list.new work.new result) (literals.parts (place_of c) (look_items t.now (look_node t.now c.left) false count w.at).value)) }
 {
     let mut v = w;
-    let mut n = count;
-    while 0 < n {
-        v = pt(v, t, out, list, work, c, n - 1);
-        n -= 1;
+    for before in 0..count {
+        v = property(v, t, out, list, work, c, count - before - 1);
     }
     v
 }
 
 // A property, n of them behind it.
-#[cycle(add_ag_an_ar_ba_bi_bl_body_ca_da_db_decl_deep_dh_dr_eb_ek_fb_fs_fun_go_gv_head_item_items_key_keys_kv_lit_lo_mv_node_ns_oa_os_own_pa_plain_pr_prop_ps_pt_read_rest_seq_slot_ta_tb_tg_th_top_turn_va_view_vl_vo)]
-fn pt(
+#[cycle(writing)]
+fn property(
     w: Walk,
     t: &[u8],
     out: &mut [u8],
@@ -180,22 +164,19 @@ fn pt(
     ensures { (result.at ≡ (look_node t.now c.left w.at).next) × (n < 65536 → Good t.now c.left w.at → Does (going_of out.old list.old work.old w) (going_of out.new list.new work.new result) (literals.part (place_of c) (look_node t.now c.left w.at).value (run (look_items t.now (look_node t.now c.left) false n (look_node t.now c.left w.at).next).value))) }
 {
     let p = w.at;
-    if is_spread(t, c.left, p) {
-        if has_first(t, p) {
-            let left = less(c.left);
-            let v = node(w.to(step(t, p, 2)), t, out, list, work, under(c, left)).to(skip(
-                t, c.left, p,
-            ));
-            let k = run_of(t, c.left, n, v.at);
-            return pending(v, out, k);
-        }
-        return node(w, t, out, list, work, c);
+    if is_spread(t, c.left, p) && has_first(t, p) {
+        let left = less(c.left);
+        let v = node(w.to(step(t, p, 2)), t, out, list, work, under(c, left)).to(skip(
+            t, c.left, p,
+        ));
+        let k = run_of(t, c.left, n, v.at);
+        return pending(v, out, k);
     }
     node(w, t, out, list, work, c)
 }
 
 // A node as it stands.
-#[cycle(add_ag_an_ar_ba_bi_bl_body_ca_da_db_decl_deep_dh_dr_eb_ek_fb_fs_fun_go_gv_head_item_items_key_keys_kv_lit_lo_mv_node_ns_oa_os_own_pa_plain_pr_prop_ps_pt_read_rest_seq_slot_ta_tb_tg_th_top_turn_va_view_vl_vo)]
+#[cycle(writing)]
 fn plain(w: Walk, t: &[u8], out: &mut [u8], list: &mut [u8], work: &mut [u8], c: Place) -> Walk
     ensures { (result.at ≡ (look_node t.now c.left w.at).next) × (Good t.now c.left w.at → Does (going_of out.old list.old work.old w) (going_of out.new list.new work.new result) (stays (place_of c) (look_node t.now c.left w.at).value)) }
 {
@@ -209,13 +190,13 @@ fn plain(w: Walk, t: &[u8], out: &mut [u8], list: &mut [u8], work: &mut [u8], c:
     let v = w.copy(t, out, step(t, start, 2));
     let inner = parts_of(c, kind, 0, left - 1);
     if kind == kinds::SWITCH {
-        let u = fs(v, t, out, list, work, inner, SWITCH_FRONT, map, false);
+        let u = fields(v, t, out, list, work, inner, SWITCH_FRONT, map, false);
         let cases = parts_of(c, kind, 2, left - 1);
-        return fs(u, t, out, list, work, cases, SWITCH_CASES, map / 4, false).to(skip(
+        return fields(u, t, out, list, work, cases, SWITCH_CASES, map / 4, false).to(skip(
             t, left, start,
         ));
     }
-    fs(
+    fields(
         v,
         t,
         out,
@@ -229,8 +210,8 @@ fn plain(w: Walk, t: &[u8], out: &mut [u8], list: &mut [u8], work: &mut [u8], c:
     .to(skip(t, left, start))
 }
 
-#[cycle(add_ag_an_ar_ba_bi_bl_body_ca_da_db_decl_deep_dh_dr_eb_ek_fb_fs_fun_go_gv_head_item_items_key_keys_kv_lit_lo_mv_node_ns_oa_os_own_pa_plain_pr_prop_ps_pt_read_rest_seq_slot_ta_tb_tg_th_top_turn_va_view_vl_vo)]
-fn fs(
+#[cycle(writing)]
+fn fields(
     w: Walk,
     t: &[u8],
     out: &mut [u8],
@@ -255,7 +236,7 @@ fn fs(
 }
 
 // A field, if its bit stands.
-#[cycle(add_ag_an_ar_ba_bi_bl_body_ca_da_db_decl_deep_dh_dr_eb_ek_fb_fs_fun_go_gv_head_item_items_key_keys_kv_lit_lo_mv_node_ns_oa_os_own_pa_plain_pr_prop_ps_pt_read_rest_seq_slot_ta_tb_tg_th_top_turn_va_view_vl_vo)]
+#[cycle(writing)]
 fn slot(
     w: Walk,
     t: &[u8],
@@ -304,7 +285,7 @@ fn slot(
 }
 
 // Items; l says whether they are containing statements.
-#[cycle(add_ag_an_ar_ba_bi_bl_body_ca_da_db_decl_deep_dh_dr_eb_ek_fb_fs_fun_go_gv_head_item_items_key_keys_kv_lit_lo_mv_node_ns_oa_os_own_pa_plain_pr_prop_ps_pt_read_rest_seq_slot_ta_tb_tg_th_top_turn_va_view_vl_vo)]
+#[cycle(writing)]
 fn items(
     w: Walk,
     t: &[u8],
@@ -319,15 +300,13 @@ fn items(
     ensures { (result.at ≡ (look_items t.now (look_node t.now c.left) holes count w.at).next) × (GoodItems t.now (look_node t.now c.left) (Good t.now c.left) l holes count w.at → Does (going_of out.old list.old work.old w) (going_of out.new list.new work.new result) (emits_items l (place_of c) (look_items t.now (look_node t.now c.left) holes count w.at).value)) }
 {
     let mut v = w;
-    let mut n = count;
-    while 0 < n {
+    for _ in 0..count {
         v = item(v, t, out, list, work, c, holes, l);
-        n -= 1;
     }
     v
 }
 
-#[cycle(add_ag_an_ar_ba_bi_bl_body_ca_da_db_decl_deep_dh_dr_eb_ek_fb_fs_fun_go_gv_head_item_items_key_keys_kv_lit_lo_mv_node_ns_oa_os_own_pa_plain_pr_prop_ps_pt_read_rest_seq_slot_ta_tb_tg_th_top_turn_va_view_vl_vo)]
+#[cycle(writing)]
 fn item(
     w: Walk,
     t: &[u8],
@@ -341,10 +320,8 @@ fn item(
     ensures { (result.at ≡ (look_item t.now (look_node t.now c.left) holes w.at).next) × (GoodItem t.now (look_node t.now c.left) (Good t.now c.left) l holes w.at → Does (going_of out.old list.old work.old w) (going_of out.new list.new work.new result) (item_deeds t.now (look_node t.now c.left) l (place_of c) holes w.at)) }
 {
     let p = w.at;
-    if holes {
-        if peek(t, p) == 0 {
-            return w.copy(t, out, step(t, p, 1));
-        }
+    if holes && peek(t, p) == 0 {
+        return w.copy(t, out, step(t, p, 1));
     }
     if l {
         return node(w, t, out, list, work, marked(c, wide_at(t, step(t, p, 2))));
@@ -355,8 +332,8 @@ fn item(
 // ---- lists by a mode
 
 // The items of a list. The modes of what has rests are told `root` (`is_told`); in any other it plays no part.
-#[cycle(add_ag_an_ar_ba_bi_bl_body_ca_da_db_decl_deep_dh_dr_eb_ek_fb_fs_fun_go_gv_head_item_items_key_keys_kv_lit_lo_mv_node_ns_oa_os_own_pa_plain_pr_prop_ps_pt_read_rest_seq_slot_ta_tb_tg_th_top_turn_va_view_vl_vo)]
-fn seq(
+#[cycle(writing)]
+fn turns(
     w: Walk,
     t: &[u8],
     out: &mut [u8],
@@ -371,16 +348,14 @@ fn seq(
     ensures { GoodItems t.now (look_node t.now c.left) (Good t.now c.left) false holes count w.at → AllSuit mode (look_items t.now (look_node t.now c.left) holes count w.at).value → (result.at ≡ (look_items t.now (look_node t.now c.left) holes count w.at).next) × Does (going_of out.old list.old work.old w) (going_of out.new list.new work.new result) (turns_of mode (told_place mode root c) (look_items t.now (look_node t.now c.left) holes count w.at).value) }
 {
     let mut v = w;
-    let mut n = count;
-    while 0 < n {
+    for _ in 0..count {
         v = turn(v, t, out, list, work, c, root, mode, holes);
-        n -= 1;
     }
     v
 }
 
 // One of them, or a hole.
-#[cycle(add_ag_an_ar_ba_bi_bl_body_ca_da_db_decl_deep_dh_dr_eb_ek_fb_fs_fun_go_gv_head_item_items_key_keys_kv_lit_lo_mv_node_ns_oa_os_own_pa_plain_pr_prop_ps_pt_read_rest_seq_slot_ta_tb_tg_th_top_turn_va_view_vl_vo)]
+#[cycle(writing)]
 fn turn(
     w: Walk,
     t: &[u8],
@@ -394,27 +369,25 @@ fn turn(
 ) -> Walk
     ensures { GoodItem t.now (look_node t.now c.left) (Good t.now c.left) false holes w.at → (hole_at t.now holes w.at ≡ false → suits mode (look_node t.now c.left w.at).value ≡ true) → (result.at ≡ (look_item t.now (look_node t.now c.left) holes w.at).next) × Does (going_of out.old list.old work.old w) (going_of out.new list.new work.new result) (spot_deeds t.now (look_node t.now c.left) mode (told_place mode root c) holes w.at) }
 {
-    if holes {
-        if peek(t, w.at) == 0 {
-            return hole(w, t, out, mode);
-        }
+    if holes && peek(t, w.at) == 0 {
+        return hole(w, t, out, mode);
     }
     match mode {
         Mode::Viewed => view(w, t, out, list, work, c, View::Replacing),
-        Mode::MovedOut => go(w, t, out, list, work, c),
+        Mode::MovedOut => moved_out(w, t, out, list, work, c),
         Mode::Below(d) => deep(w, t, out, list, work, c, root, d),
-        Mode::Property(taken) => prop(w, t, out, list, work, c, taken),
-        Mode::ExcludedKey => ek(w, t, out, list, work, c),
-        Mode::KeyValue => kv(w, t, out, list, work, c),
-        Mode::Value(d) => vl(w, t, out, list, work, c, root, d),
-        Mode::Declarator => dr(w, t, out, list, work, c, root),
-        Mode::Binding => bi(w, t, out, list, work, c),
+        Mode::Property(taken) => view_property(w, t, out, list, work, c, taken),
+        Mode::ExcludedKey => excluded_key(w, t, out, list, work, c),
+        Mode::KeyValue => key_value(w, t, out, list, work, c),
+        Mode::Value(d) => deep_value(w, t, out, list, work, c, root, d),
+        Mode::Declarator => declarator(w, t, out, list, work, c, root),
+        Mode::Binding => binding(w, t, out, list, work, c),
     }
 }
 
 // ---- patterns in a view
 
-#[cycle(add_ag_an_ar_ba_bi_bl_body_ca_da_db_decl_deep_dh_dr_eb_ek_fb_fs_fun_go_gv_head_item_items_key_keys_kv_lit_lo_mv_node_ns_oa_os_own_pa_plain_pr_prop_ps_pt_read_rest_seq_slot_ta_tb_tg_th_top_turn_va_view_vl_vo)]
+#[cycle(writing)]
 fn view(
     w: Walk,
     t: &[u8],
@@ -431,8 +404,8 @@ fn view(
     }
     let kind = peek(t, w.at);
     match kind {
-        kinds::OBJECT_PATTERN => vo(w, t, out, list, work, c, v),
-        kinds::ARRAY_PATTERN => va(w, t, out, list, work, c, v),
+        kinds::OBJECT_PATTERN => view_object(w, t, out, list, work, c, v),
+        kinds::ARRAY_PATTERN => view_array(w, t, out, list, work, c, v),
         kinds::DEFAULT => {
             let left = less(c.left);
             let u = w.copy(t, out, step(t, w.at, 2));
@@ -444,8 +417,8 @@ fn view(
 }
 
 // An object pattern: replaced, or without its rest.
-#[cycle(add_ag_an_ar_ba_bi_bl_body_ca_da_db_decl_deep_dh_dr_eb_ek_fb_fs_fun_go_gv_head_item_items_key_keys_kv_lit_lo_mv_node_ns_oa_os_own_pa_plain_pr_prop_ps_pt_read_rest_seq_slot_ta_tb_tg_th_top_turn_va_view_vl_vo)]
-fn vo(
+#[cycle(writing)]
+fn view_object(
     w: Walk,
     t: &[u8],
     out: &mut [u8],
@@ -462,12 +435,10 @@ fn vo(
     let p = w.at;
     let left = less(c.left);
     let rest = has_second(t, p);
-    if rest {
-        if replaces(v) {
-            return w
-                .temporary(out, list, work, p, stems::PLACE)
-                .to(skip(t, c.left, p));
-        }
+    if rest && replaces(v) {
+        return w
+            .temporary(out, list, work, p, stems::PLACE)
+            .to(skip(t, c.left, p));
     }
     let q = step(t, p, 2);
     let n = wide_at(t, q);
@@ -475,7 +446,7 @@ fn vo(
         .put2(out, written::OBJECT_PATTERN, written::FIRST)
         .wide(out, n)
         .to(step(t, q, 2));
-    let u = seq(
+    let u = turns(
         u,
         t,
         out,
@@ -494,8 +465,8 @@ fn vo(
 }
 
 // An array pattern; its rest as it stands.
-#[cycle(add_ag_an_ar_ba_bi_bl_body_ca_da_db_decl_deep_dh_dr_eb_ek_fb_fs_fun_go_gv_head_item_items_key_keys_kv_lit_lo_mv_node_ns_oa_os_own_pa_plain_pr_prop_ps_pt_read_rest_seq_slot_ta_tb_tg_th_top_turn_va_view_vl_vo)]
-fn va(
+#[cycle(writing)]
+fn view_array(
     w: Walk,
     t: &[u8],
     out: &mut [u8],
@@ -514,7 +485,7 @@ fn va(
     let q = step(t, p, 2);
     let n = wide_at(t, q);
     let u = w.copy(t, out, step(t, q, 2));
-    let u = seq(
+    let u = turns(
         u,
         t,
         out,
@@ -533,8 +504,8 @@ fn va(
 }
 
 // A property: its key, its value, its flags. A quiet one with a static key is its own view.
-#[cycle(add_ag_an_ar_ba_bi_bl_body_ca_da_db_decl_deep_dh_dr_eb_ek_fb_fs_fun_go_gv_head_item_items_key_keys_kv_lit_lo_mv_node_ns_oa_os_own_pa_plain_pr_prop_ps_pt_read_rest_seq_slot_ta_tb_tg_th_top_turn_va_view_vl_vo)]
-fn prop(
+#[cycle(writing)]
+fn view_property(
     w: Walk,
     t: &[u8],
     out: &mut [u8],
@@ -546,10 +517,8 @@ fn prop(
     ensures { byte_at t.now w.at ≡ 35 → Emitted t.now c.left w.at result.at (going_of out.old list.old work.old w) (going_of out.new list.new work.new result) (emits_property (place_of c) taken replacing) }
 {
     let p = w.at;
-    if quiet(t, p) {
-        if peek(t, step(t, p, 2)) == kinds::STATIC_KEY {
-            return w.copy(t, out, skip(t, c.left, p));
-        }
+    if quiet(t, p) && peek(t, step(t, p, 2)) == kinds::STATIC_KEY {
+        return w.copy(t, out, skip(t, c.left, p));
     }
     let left = less(c.left);
     let u = key(
@@ -567,7 +536,7 @@ fn prop(
 }
 
 // A key; where the rest is taken it may become a temporary.
-#[cycle(add_ag_an_ar_ba_bi_bl_body_ca_da_db_decl_deep_dh_dr_eb_ek_fb_fs_fun_go_gv_head_item_items_key_keys_kv_lit_lo_mv_node_ns_oa_os_own_pa_plain_pr_prop_ps_pt_read_rest_seq_slot_ta_tb_tg_th_top_turn_va_view_vl_vo)]
+#[cycle(writing)]
 fn key(
     w: Walk,
     t: &[u8],
@@ -580,12 +549,10 @@ fn key(
 ) -> Walk
     ensures { Emitted t.now c.left w.at result.at (going_of out.old list.old work.old w) (going_of out.new list.new work.new result) (emits_key (place_of c) taken property) }
 {
-    if taken {
-        if is_other(t, c.left, w.at) {
-            return w
-                .temporary(out, list, work, property, stems::KEY)
-                .to(skip(t, c.left, w.at));
-        }
+    if taken && is_other(t, c.left, w.at) {
+        return w
+            .temporary(out, list, work, property, stems::KEY)
+            .to(skip(t, c.left, w.at));
     }
     node(w, t, out, list, work, c)
 }
@@ -593,7 +560,7 @@ fn key(
 // ---- the value of a rest
 
 // That of the object pattern at p, read from b, which is settled. The pattern was written before: once the tree is full its keys are not written again.
-#[cycle(add_ag_an_ar_ba_bi_bl_body_ca_da_db_decl_deep_dh_dr_eb_ek_fb_fs_fun_go_gv_head_item_items_key_keys_kv_lit_lo_mv_node_ns_oa_os_own_pa_plain_pr_prop_ps_pt_read_rest_seq_slot_ta_tb_tg_th_top_turn_va_view_vl_vo)]
+#[cycle(writing)]
 fn rest(
     w: Walk,
     t: &[u8],
@@ -624,14 +591,11 @@ fn rest(
     );
     let next = s.next;
     let u = read(s.walk, t, out, list, work, inside(c, c.left), root, p);
-    Sourced {
-        walk: u,
-        next: next,
-    }
+    Sourced { walk: u, next }
 }
 
 // The keys that are left out: a temporary, their array, or that array mapped by the helper.
-#[cycle(add_ag_an_ar_ba_bi_bl_body_ca_da_db_decl_deep_dh_dr_eb_ek_fb_fs_fun_go_gv_head_item_items_key_keys_kv_lit_lo_mv_node_ns_oa_os_own_pa_plain_pr_prop_ps_pt_read_rest_seq_slot_ta_tb_tg_th_top_turn_va_view_vl_vo)]
+#[cycle(writing)]
 fn read(
     w: Walk,
     t: &[u8],
@@ -656,7 +620,7 @@ fn read(
     keys(u, t, out, list, work, c, root, p).mapped(out)
 }
 
-#[cycle(add_ag_an_ar_ba_bi_bl_body_ca_da_db_decl_deep_dh_dr_eb_ek_fb_fs_fun_go_gv_head_item_items_key_keys_kv_lit_lo_mv_node_ns_oa_os_own_pa_plain_pr_prop_ps_pt_read_rest_seq_slot_ta_tb_tg_th_top_turn_va_view_vl_vo)]
+#[cycle(writing)]
 fn keys(
     w: Walk,
     t: &[u8],
@@ -680,7 +644,7 @@ fn keys(
         .put2(out, written::ARRAY, written::FIRST)
         .wide(out, k)
         .to(step(t, q, 2));
-    seq(
+    turns(
         u,
         t,
         out,
@@ -696,8 +660,15 @@ fn keys(
 }
 
 // The key of a property among them.
-#[cycle(add_ag_an_ar_ba_bi_bl_body_ca_da_db_decl_deep_dh_dr_eb_ek_fb_fs_fun_go_gv_head_item_items_key_keys_kv_lit_lo_mv_node_ns_oa_os_own_pa_plain_pr_prop_ps_pt_read_rest_seq_slot_ta_tb_tg_th_top_turn_va_view_vl_vo)]
-fn ek(w: Walk, t: &[u8], out: &mut [u8], list: &mut [u8], work: &mut [u8], c: Place) -> Walk
+#[cycle(writing)]
+fn excluded_key(
+    w: Walk,
+    t: &[u8],
+    out: &mut [u8],
+    list: &mut [u8],
+    work: &mut [u8],
+    c: Place,
+) -> Walk
     ensures { byte_at t.now w.at ≡ 35 → Emitted t.now c.left w.at result.at (going_of out.old list.old work.old w) (going_of out.new list.new work.new result) (emits_excluded (place_of c)) }
 {
     let p = w.at;
@@ -714,8 +685,8 @@ fn ek(w: Walk, t: &[u8], out: &mut [u8], list: &mut [u8], work: &mut [u8], c: Pl
 }
 
 // The declarator of the temporary for a key.
-#[cycle(add_ag_an_ar_ba_bi_bl_body_ca_da_db_decl_deep_dh_dr_eb_ek_fb_fs_fun_go_gv_head_item_items_key_keys_kv_lit_lo_mv_node_ns_oa_os_own_pa_plain_pr_prop_ps_pt_read_rest_seq_slot_ta_tb_tg_th_top_turn_va_view_vl_vo)]
-fn kv(w: Walk, t: &[u8], out: &mut [u8], list: &mut [u8], work: &mut [u8], c: Place) -> Walk
+#[cycle(writing)]
+fn key_value(w: Walk, t: &[u8], out: &mut [u8], list: &mut [u8], work: &mut [u8], c: Place) -> Walk
     ensures { byte_at t.now w.at ≡ 35 → Emitted t.now c.left w.at result.at (going_of out.old list.old work.old w) (going_of out.new list.new work.new result) (emits_key_value (place_of c)) }
 {
     let p = w.at;
@@ -734,7 +705,7 @@ fn kv(w: Walk, t: &[u8], out: &mut [u8], list: &mut [u8], work: &mut [u8], c: Pl
 
 // ---- what is below a pattern, by a mode: the declarators that are found, or the assignments of the objects that are found
 
-#[cycle(add_ag_an_ar_ba_bi_bl_body_ca_da_db_decl_deep_dh_dr_eb_ek_fb_fs_fun_go_gv_head_item_items_key_keys_kv_lit_lo_mv_node_ns_oa_os_own_pa_plain_pr_prop_ps_pt_read_rest_seq_slot_ta_tb_tg_th_top_turn_va_view_vl_vo)]
+#[cycle(writing)]
 fn deep(
     w: Walk,
     t: &[u8],
@@ -752,8 +723,8 @@ fn deep(
     }
     let kind = peek(t, w.at);
     match kind {
-        kinds::OBJECT_PATTERN => db(w, t, out, list, work, c, root, mode),
-        kinds::ARRAY_PATTERN => da(w, t, out, list, work, c, root, mode),
+        kinds::OBJECT_PATTERN => deep_object(w, t, out, list, work, c, root, mode),
+        kinds::ARRAY_PATTERN => deep_array(w, t, out, list, work, c, root, mode),
         kinds::DEFAULT => {
             let left = less(c.left);
             let u = w.to(step(t, w.at, 2));
@@ -765,8 +736,8 @@ fn deep(
 }
 
 // The object itself, or its values.
-#[cycle(add_ag_an_ar_ba_bi_bl_body_ca_da_db_decl_deep_dh_dr_eb_ek_fb_fs_fun_go_gv_head_item_items_key_keys_kv_lit_lo_mv_node_ns_oa_os_own_pa_plain_pr_prop_ps_pt_read_rest_seq_slot_ta_tb_tg_th_top_turn_va_view_vl_vo)]
-fn db(
+#[cycle(writing)]
+fn deep_object(
     w: Walk,
     t: &[u8],
     out: &mut [u8],
@@ -782,7 +753,7 @@ fn db(
         return w;
     }
     match mode {
-        Deep::Found => fb(w, t, out, list, work, c, root),
+        Deep::Found => found_object(w, t, out, list, work, c, root),
         Deep::Reached(reach) => {
             let p = w.at;
             if has_second(t, p) {
@@ -805,14 +776,14 @@ fn db(
                 )
                 .to(end);
             }
-            pr(w, t, out, list, work, c, root, p, Mode::Value(mode))
+            object_properties(w, t, out, list, work, c, root, p, Mode::Value(mode))
         }
     }
 }
 
 // The declarators of an object with rest, then those of its values.
-#[cycle(add_ag_an_ar_ba_bi_bl_body_ca_da_db_decl_deep_dh_dr_eb_ek_fb_fs_fun_go_gv_head_item_items_key_keys_kv_lit_lo_mv_node_ns_oa_os_own_pa_plain_pr_prop_ps_pt_read_rest_seq_slot_ta_tb_tg_th_top_turn_va_view_vl_vo)]
-fn fb(
+#[cycle(writing)]
+fn found_object(
     w: Walk,
     t: &[u8],
     out: &mut [u8],
@@ -832,7 +803,7 @@ fn fb(
     let n = wide_at(t, q);
     let first = step(t, q, 2);
     if has_second(t, p) {
-        let s = own(
+        let s = own_keys(
             w,
             t,
             out,
@@ -842,8 +813,8 @@ fn fb(
             root,
             ReferenceBuilder::held(cell(stems::PLACE, p), stems::PLACE),
         );
-        let u = os(s.walk, t, out, list, work, c, root, s.next);
-        let u = seq(
+        let u = own_rest(s.walk, t, out, list, work, c, root, s.next);
+        let u = turns(
             u.to(first),
             t,
             out,
@@ -857,7 +828,7 @@ fn fb(
         );
         return u.to(skip(t, left, u.at));
     }
-    seq(
+    turns(
         w.to(first),
         t,
         out,
@@ -871,8 +842,8 @@ fn fb(
     )
 }
 
-#[cycle(add_ag_an_ar_ba_bi_bl_body_ca_da_db_decl_deep_dh_dr_eb_ek_fb_fs_fun_go_gv_head_item_items_key_keys_kv_lit_lo_mv_node_ns_oa_os_own_pa_plain_pr_prop_ps_pt_read_rest_seq_slot_ta_tb_tg_th_top_turn_va_view_vl_vo)]
-fn da(
+#[cycle(writing)]
+fn deep_array(
     w: Walk,
     t: &[u8],
     out: &mut [u8],
@@ -893,7 +864,7 @@ fn da(
     }
     let q = step(t, w.at, 2);
     let n = wide_at(t, q);
-    seq(
+    turns(
         w.to(step(t, q, 2)),
         t,
         out,
@@ -909,8 +880,8 @@ fn da(
 }
 
 // The same for the value of a property. Below that of a quiet one there is nothing.
-#[cycle(add_ag_an_ar_ba_bi_bl_body_ca_da_db_decl_deep_dh_dr_eb_ek_fb_fs_fun_go_gv_head_item_items_key_keys_kv_lit_lo_mv_node_ns_oa_os_own_pa_plain_pr_prop_ps_pt_read_rest_seq_slot_ta_tb_tg_th_top_turn_va_view_vl_vo)]
-fn vl(
+#[cycle(writing)]
+fn deep_value(
     w: Walk,
     t: &[u8],
     out: &mut [u8],
@@ -934,8 +905,15 @@ fn vl(
 // ---- declarations
 
 // A declaration: what it hands out, its declarators.
-#[cycle(add_ag_an_ar_ba_bi_bl_body_ca_da_db_decl_deep_dh_dr_eb_ek_fb_fs_fun_go_gv_head_item_items_key_keys_kv_lit_lo_mv_node_ns_oa_os_own_pa_plain_pr_prop_ps_pt_read_rest_seq_slot_ta_tb_tg_th_top_turn_va_view_vl_vo)]
-fn decl(w: Walk, t: &[u8], out: &mut [u8], list: &mut [u8], work: &mut [u8], c: Place) -> Walk
+#[cycle(writing)]
+fn declaration(
+    w: Walk,
+    t: &[u8],
+    out: &mut [u8],
+    list: &mut [u8],
+    work: &mut [u8],
+    c: Place,
+) -> Walk
     ensures { byte_at t.now w.at ≡ 4 → Ruled t.now c.left w.at result.at (going_of out.old list.old work.old w) (going_of out.new list.new work.new result) (emits (place_of c)) }
 {
     let root = at_root(c);
@@ -943,16 +921,15 @@ fn decl(w: Walk, t: &[u8], out: &mut [u8], list: &mut [u8], work: &mut [u8], c: 
         return w;
     }
     let p = w.at;
-    let r = declaration_refusal(t, c.left, p);
-    if 0 < r {
-        return w.refuse(out, r).to(skip(t, c.left, p));
+    if let Some(r) = declaration_refusal(t, c.left, p) {
+        return w.refuse(out, u8::from(r)).to(skip(t, c.left, p));
     }
     let u = declaration_hands(w, t, list, work, c.left, p, root);
     let q = step(t, p, 5);
     let k = declaration_becomes(t, c.left, p);
     let u = u.copy(t, out, q).wide(out, k).to(step(t, q, 2));
     let end = skip(t, c.left, p);
-    seq(
+    turns(
         u,
         t,
         out,
@@ -968,8 +945,8 @@ fn decl(w: Walk, t: &[u8], out: &mut [u8], list: &mut [u8], work: &mut [u8], c: 
 }
 
 // A declarator: as it stands without a starting value or an object rest.
-#[cycle(add_ag_an_ar_ba_bi_bl_body_ca_da_db_decl_deep_dh_dr_eb_ek_fb_fs_fun_go_gv_head_item_items_key_keys_kv_lit_lo_mv_node_ns_oa_os_own_pa_plain_pr_prop_ps_pt_read_rest_seq_slot_ta_tb_tg_th_top_turn_va_view_vl_vo)]
-fn dr(
+#[cycle(writing)]
+fn declarator(
     w: Walk,
     t: &[u8],
     out: &mut [u8],
@@ -983,20 +960,20 @@ fn dr(
     let p = w.at;
     let left = less(c.left);
     let id = step(t, p, 2);
-    let Start::Value(init) = start_of(t, c.left, p) else {
+    let Some(init) = start_of(t, c.left, p) else {
         return node(w, t, out, list, work, told_inside(c, root, c.left));
     };
     if has_nested_object_rest(t, left, id) {
         let end = skip(t, left, init);
         let b = ReferenceBuilder::new(t, left, init, cell(stems::VALUE, id), stems::VALUE, false);
-        return lo(w, t, out, list, work, under(c, left), root, id, b).to(end);
+        return lowered(w, t, out, list, work, under(c, left), root, id, init, b).to(end);
     }
     node(w, t, out, list, work, told_inside(c, root, c.left))
 }
 
 // A value that is no name goes into a temporary first: it is what the first read gives.
-#[cycle(add_ag_an_ar_ba_bi_bl_body_ca_da_db_decl_deep_dh_dr_eb_ek_fb_fs_fun_go_gv_head_item_items_key_keys_kv_lit_lo_mv_node_ns_oa_os_own_pa_plain_pr_prop_ps_pt_read_rest_seq_slot_ta_tb_tg_th_top_turn_va_view_vl_vo)]
-fn lo(
+#[cycle(writing)]
+fn lowered(
     w: Walk,
     t: &[u8],
     out: &mut [u8],
@@ -1005,26 +982,30 @@ fn lo(
     c: Place,
     root: bool,
     id: usize,
+    init: usize,
     b: ReferenceBuilder,
 ) -> Walk
-    ensures { b ≡ builder_of t.now c.left b.at (events.cell 3 id) 3 false → Good t.now c.left id → Good t.now c.left b.at → Does (going_of out.old list.old work.old w) (going_of out.new list.new work.new result) (emits_lowered (place_with root c) (look_node t.now c.left id).value (look_node t.now c.left b.at).value) }
+    ensures { b ≡ builder_of t.now c.left init (events.cell 3 id) 3 false → Good t.now c.left id → Good t.now c.left init → Does (going_of out.old list.old work.old w) (going_of out.new list.new work.new result) (emits_lowered (place_with root c) (look_node t.now c.left id).value (look_node t.now c.left init).value) }
 {
-    if b.wanted {
-        let taken = b.create_read_expression();
-        let read = taken.read;
-        let u = w
-            .put2(out, written::DECLARATOR, written::FIRST_TWO)
-            .temporary(out, list, work, b.cell, b.stem)
-            .to(place_of(read));
-        let u = node(u, t, out, list, work, told_inside(c, root, c.left));
-        return pa(u.to(id), t, out, list, work, c, root, taken.next);
+    match b {
+        ReferenceBuilder::Wanted {
+            cell: kept, stem, ..
+        } => {
+            let taken = b.create_read_expression();
+            let u = w
+                .put2(out, written::DECLARATOR, written::FIRST_TWO)
+                .temporary(out, list, work, kept, stem)
+                .to(place_of(taken.read));
+            let u = node(u, t, out, list, work, told_inside(c, root, c.left));
+            declarators(u.to(id), t, out, list, work, c, root, taken.next)
+        }
+        _ => declarators(w.to(id), t, out, list, work, c, root, b),
     }
-    pa(w.to(id), t, out, list, work, c, root, b)
 }
 
 // The declarators of a pattern, read from b.
-#[cycle(add_ag_an_ar_ba_bi_bl_body_ca_da_db_decl_deep_dh_dr_eb_ek_fb_fs_fun_go_gv_head_item_items_key_keys_kv_lit_lo_mv_node_ns_oa_os_own_pa_plain_pr_prop_ps_pt_read_rest_seq_slot_ta_tb_tg_th_top_turn_va_view_vl_vo)]
-fn pa(
+#[cycle(writing)]
+fn declarators(
     w: Walk,
     t: &[u8],
     out: &mut [u8],
@@ -1045,10 +1026,10 @@ fn pa(
             let p = w.at;
             let q = step(t, p, 2);
             let n = wide_at(t, q);
-            let s = own(w, t, out, list, work, c, root, b);
+            let s = own_keys(w, t, out, list, work, c, root, b);
             let v = s.walk;
             let u = v.to(step(t, q, 2));
-            let u = seq(
+            let u = turns(
                 u,
                 t,
                 out,
@@ -1061,7 +1042,7 @@ fn pa(
                 n,
             )
             .to(p);
-            os(u, t, out, list, work, c, root, s.next)
+            own_rest(u, t, out, list, work, c, root, s.next)
         }
         kinds::ARRAY_PATTERN => {
             let p = w.at;
@@ -1084,8 +1065,8 @@ fn pa(
 }
 
 // An object's keys, if its rest is taken, and its pattern.
-#[cycle(add_ag_an_ar_ba_bi_bl_body_ca_da_db_decl_deep_dh_dr_eb_ek_fb_fs_fun_go_gv_head_item_items_key_keys_kv_lit_lo_mv_node_ns_oa_os_own_pa_plain_pr_prop_ps_pt_read_rest_seq_slot_ta_tb_tg_th_top_turn_va_view_vl_vo)]
-fn own(
+#[cycle(writing)]
+fn own_keys(
     w: Walk,
     t: &[u8],
     out: &mut [u8],
@@ -1104,7 +1085,7 @@ fn own(
     if has_second(t, p) {
         let q = step(t, p, 2);
         let n = wide_at(t, q);
-        let u = seq(
+        let u = turns(
             w.to(step(t, q, 2)),
             t,
             out,
@@ -1116,13 +1097,13 @@ fn own(
             false,
             n,
         );
-        return oa(u.to(p), t, out, list, work, c, root, b);
+        return own_pattern(u.to(p), t, out, list, work, c, root, b);
     }
-    oa(w, t, out, list, work, c, root, b)
+    own_pattern(w, t, out, list, work, c, root, b)
 }
 
-#[cycle(add_ag_an_ar_ba_bi_bl_body_ca_da_db_decl_deep_dh_dr_eb_ek_fb_fs_fun_go_gv_head_item_items_key_keys_kv_lit_lo_mv_node_ns_oa_os_own_pa_plain_pr_prop_ps_pt_read_rest_seq_slot_ta_tb_tg_th_top_turn_va_view_vl_vo)]
-fn oa(
+#[cycle(writing)]
+fn own_pattern(
     w: Walk,
     t: &[u8],
     out: &mut [u8],
@@ -1148,18 +1129,15 @@ fn oa(
         View::Taking,
     );
     let s = source(u, t, out, list, work, b);
-    let next = s.next;
-    let v = s.walk;
-    let v = v.to(p);
     Sourced {
-        walk: v,
-        next: next,
+        walk: s.walk.to(p),
+        next: s.next,
     }
 }
 
 // Its rest.
-#[cycle(add_ag_an_ar_ba_bi_bl_body_ca_da_db_decl_deep_dh_dr_eb_ek_fb_fs_fun_go_gv_head_item_items_key_keys_kv_lit_lo_mv_node_ns_oa_os_own_pa_plain_pr_prop_ps_pt_read_rest_seq_slot_ta_tb_tg_th_top_turn_va_view_vl_vo)]
-fn os(
+#[cycle(writing)]
+fn own_rest(
     w: Walk,
     t: &[u8],
     out: &mut [u8],
@@ -1185,8 +1163,7 @@ fn os(
             told_inside(c, root, left),
         );
         let s = rest(u, t, out, list, work, inside(c, c.left), root, p, b);
-        let v = s.walk;
-        return v.to(p);
+        return s.walk.to(p);
     }
     w
 }
@@ -1194,8 +1171,8 @@ fn os(
 // ---- assignments
 
 // An assignment.
-#[cycle(add_ag_an_ar_ba_bi_bl_body_ca_da_db_decl_deep_dh_dr_eb_ek_fb_fs_fun_go_gv_head_item_items_key_keys_kv_lit_lo_mv_node_ns_oa_os_own_pa_plain_pr_prop_ps_pt_read_rest_seq_slot_ta_tb_tg_th_top_turn_va_view_vl_vo)]
-fn ag(w: Walk, t: &[u8], out: &mut [u8], list: &mut [u8], work: &mut [u8], c: Place) -> Walk
+#[cycle(writing)]
+fn assignment(w: Walk, t: &[u8], out: &mut [u8], list: &mut [u8], work: &mut [u8], c: Place) -> Walk
     ensures { byte_at t.now w.at ≡ 27 → Ruled t.now c.left w.at result.at (going_of out.old list.old work.old w) (going_of out.new list.new work.new result) (emits (place_of c)) }
 {
     let root = at_root(c);
@@ -1208,7 +1185,7 @@ fn ag(w: Walk, t: &[u8], out: &mut [u8], list: &mut [u8], work: &mut [u8], c: Pl
     if has_nested_object_rest(t, left, q) {
         let v = skip(t, left, q);
         let op = low(peek(t, step(t, p, 2)));
-        return an(w, t, out, list, work, under(c, left), root, op, q, true, v).to(skip(
+        return assignment_to(w, t, out, list, work, under(c, left), root, op, q, true, v).to(skip(
             t, c.left, p,
         ));
     }
@@ -1217,8 +1194,8 @@ fn ag(w: Walk, t: &[u8], out: &mut [u8], list: &mut [u8], work: &mut [u8], c: Pl
 
 // The assignment to the target at p, which has an object rest below it: of the expression at x, or of the temporary in place of a
 // pattern, in the cell x.
-#[cycle(add_ag_an_ar_ba_bi_bl_body_ca_da_db_decl_deep_dh_dr_eb_ek_fb_fs_fun_go_gv_head_item_items_key_keys_kv_lit_lo_mv_node_ns_oa_os_own_pa_plain_pr_prop_ps_pt_read_rest_seq_slot_ta_tb_tg_th_top_turn_va_view_vl_vo)]
-fn an(
+#[cycle(writing)]
+fn assignment_to(
     w: Walk,
     t: &[u8],
     out: &mut [u8],
@@ -1233,12 +1210,10 @@ fn an(
 ) -> Walk
     ensures { Good t.now c.left p → (input ≡ true → Good t.now c.left x) → has_array_rest_over_object_rest (look_node t.now c.left p).value ≡ false → has_object_rest (look_node t.now c.left p).value ≡ true → Does (going_of out.old list.old work.old w) (going_of out.new list.new work.new result) (emits (place_with root c) (assignment_at 0 op (look_node t.now c.left p).value (given_node t.now c.left input x))) }
 {
-    if peek(t, p) == kinds::OBJECT_PATTERN {
-        if has_second(t, p) {
-            return top(w, t, out, list, work, c, root, p, input, stems::PLACE, x);
-        }
+    if peek(t, p) == kinds::OBJECT_PATTERN && has_second(t, p) {
+        return top(w, t, out, list, work, c, root, p, input, stems::PLACE, x);
     }
-    ns(
+    nested(
         w,
         t,
         out,
@@ -1257,7 +1232,7 @@ fn an(
 
 // The target is an object with rest: of an assignment, or of an object's own, from the temporary in its place. Its source is forced: the
 // first read gives what is assigned, which goes into a temporary; later ones give that.
-#[cycle(add_ag_an_ar_ba_bi_bl_body_ca_da_db_decl_deep_dh_dr_eb_ek_fb_fs_fun_go_gv_head_item_items_key_keys_kv_lit_lo_mv_node_ns_oa_os_own_pa_plain_pr_prop_ps_pt_read_rest_seq_slot_ta_tb_tg_th_top_turn_va_view_vl_vo)]
+#[cycle(writing)]
 fn top(
     w: Walk,
     t: &[u8],
@@ -1273,9 +1248,8 @@ fn top(
 ) -> Walk
     ensures { byte_at t.now p ≡ 34 → has_rest_of (look_node t.now c.left p).value ≡ true → Good t.now c.left p → (input ≡ true → Good t.now c.left x) → has_array_rest_over_object_rest (look_node t.now c.left p).value ≡ false → Does (going_of out.old list.old work.old w) (going_of out.new list.new work.new result) (unless_refused (keys_refusal (look_node t.now c.left p).value) (emits_top (place_with root c) (look_node t.now c.left p).value (given_deeds t.now c.left (inner (place_with root c)) input stem x))) }
 {
-    let r = refusal(t, c.left, p);
-    if 0 < r {
-        return w.refuse(out, r);
+    if let Some(r) = refusal(t, c.left, p) {
+        return w.refuse(out, u8::from(r));
     }
     let v = cell(stems::VALUE, p);
     let b = ReferenceBuilder::new(t, c.left, x, v, stems::VALUE, true);
@@ -1290,9 +1264,9 @@ fn top(
         .wide(out, k)
         .assign(out, ASSIGNS)
         .temporary(out, list, work, v, stems::VALUE);
-    let u = gv(u, t, out, list, work, d, input, stem, y);
-    let s = tg(u, t, out, list, work, c, root, p, first.next);
-    let u = pr(
+    let u = given_value(u, t, out, list, work, d, input, stem, y);
+    let s = target(u, t, out, list, work, c, root, p, first.next);
+    let u = object_properties(
         s.walk,
         t,
         out,
@@ -1313,17 +1287,14 @@ fn top(
     );
     let s = rest(u, t, out, list, work, d, root, p, s.next);
     if c.statement {
-        let u = s.walk;
-        return u;
+        return s.walk;
     }
-    let s = source(s.walk, t, out, list, work, s.next);
-    let u = s.walk;
-    u
+    source(s.walk, t, out, list, work, s.next).walk
 }
 
 // What is assigned: the expression at x, or the temporary of the cell x with its stem.
-#[cycle(add_ag_an_ar_ba_bi_bl_body_ca_da_db_decl_deep_dh_dr_eb_ek_fb_fs_fun_go_gv_head_item_items_key_keys_kv_lit_lo_mv_node_ns_oa_os_own_pa_plain_pr_prop_ps_pt_read_rest_seq_slot_ta_tb_tg_th_top_turn_va_view_vl_vo)]
-fn gv(
+#[cycle(writing)]
+fn given_value(
     w: Walk,
     t: &[u8],
     out: &mut [u8],
@@ -1343,8 +1314,8 @@ fn gv(
 }
 
 // The target without its rest, from b.
-#[cycle(add_ag_an_ar_ba_bi_bl_body_ca_da_db_decl_deep_dh_dr_eb_ek_fb_fs_fun_go_gv_head_item_items_key_keys_kv_lit_lo_mv_node_ns_oa_os_own_pa_plain_pr_prop_ps_pt_read_rest_seq_slot_ta_tb_tg_th_top_turn_va_view_vl_vo)]
-fn tg(
+#[cycle(writing)]
+fn target(
     w: Walk,
     t: &[u8],
     out: &mut [u8],
@@ -1363,7 +1334,7 @@ fn tg(
         let read = taken.read;
         let next = taken.next;
         let x = place_of(read);
-        let u = ns(
+        let u = nested(
             w,
             t,
             out,
@@ -1378,10 +1349,7 @@ fn tg(
             stems::VALUE,
             x,
         );
-        return Sourced {
-            walk: u,
-            next: next,
-        };
+        return Sourced { walk: u, next };
     }
     let u = view(
         w.assign(out, ASSIGNS).to(p),
@@ -1396,8 +1364,8 @@ fn tg(
 }
 
 // Objects with rest replaced, then an assignment for each.
-#[cycle(add_ag_an_ar_ba_bi_bl_body_ca_da_db_decl_deep_dh_dr_eb_ek_fb_fs_fun_go_gv_head_item_items_key_keys_kv_lit_lo_mv_node_ns_oa_os_own_pa_plain_pr_prop_ps_pt_read_rest_seq_slot_ta_tb_tg_th_top_turn_va_view_vl_vo)]
-fn ns(
+#[cycle(writing)]
+fn nested(
     w: Walk,
     t: &[u8],
     out: &mut [u8],
@@ -1422,7 +1390,7 @@ fn ns(
         .assign(out, op)
         .to(p);
     let u = view(u, t, out, list, work, told_inside(c, root, c.left), v);
-    let u = gv(
+    let u = given_value(
         u,
         t,
         out,
@@ -1444,7 +1412,7 @@ fn ns(
             root,
             Deep::Reached(Reach::Anywhere),
         ),
-        View::Taking => pr(
+        View::Taking => object_properties(
             u,
             t,
             out,
@@ -1459,8 +1427,8 @@ fn ns(
 }
 
 // The properties of the object at p, by a mode.
-#[cycle(add_ag_an_ar_ba_bi_bl_body_ca_da_db_decl_deep_dh_dr_eb_ek_fb_fs_fun_go_gv_head_item_items_key_keys_kv_lit_lo_mv_node_ns_oa_os_own_pa_plain_pr_prop_ps_pt_read_rest_seq_slot_ta_tb_tg_th_top_turn_va_view_vl_vo)]
-fn pr(
+#[cycle(writing)]
+fn object_properties(
     w: Walk,
     t: &[u8],
     out: &mut [u8],
@@ -1478,7 +1446,7 @@ fn pr(
     }
     let q = step(t, p, 2);
     let n = wide_at(t, q);
-    seq(
+    turns(
         w.to(step(t, q, 2)),
         t,
         out,
@@ -1495,15 +1463,15 @@ fn pr(
 // ---- parameters, catch, for heads: patterns moved out
 
 // A parameter or a declarator.
-#[cycle(add_ag_an_ar_ba_bi_bl_body_ca_da_db_decl_deep_dh_dr_eb_ek_fb_fs_fun_go_gv_head_item_items_key_keys_kv_lit_lo_mv_node_ns_oa_os_own_pa_plain_pr_prop_ps_pt_read_rest_seq_slot_ta_tb_tg_th_top_turn_va_view_vl_vo)]
-fn bi(w: Walk, t: &[u8], out: &mut [u8], list: &mut [u8], work: &mut [u8], c: Place) -> Walk
+#[cycle(writing)]
+fn binding(w: Walk, t: &[u8], out: &mut [u8], list: &mut [u8], work: &mut [u8], c: Place) -> Walk
     ensures { eqb (byte_at t.now w.at) 15 || eqb (byte_at t.now w.at) 5 ≡ true → Emitted t.now c.left w.at result.at (going_of out.old list.old work.old w) (going_of out.new list.new work.new result) (λ q. emits (place_of c) (behind q)) }
 {
     let p = w.at;
     let left = less(c.left);
     let q = step(t, p, 2);
     if has_nested_object_rest(t, left, q) {
-        let u = go(w.copy(t, out, q), t, out, list, work, inside(c, left));
+        let u = moved_out(w.copy(t, out, q), t, out, list, work, inside(c, left));
         return slot(
             u,
             t,
@@ -1520,8 +1488,8 @@ fn bi(w: Walk, t: &[u8], out: &mut [u8], list: &mut [u8], work: &mut [u8], c: Pl
 }
 
 // A pattern without the parts that are moved out.
-#[cycle(add_ag_an_ar_ba_bi_bl_body_ca_da_db_decl_deep_dh_dr_eb_ek_fb_fs_fun_go_gv_head_item_items_key_keys_kv_lit_lo_mv_node_ns_oa_os_own_pa_plain_pr_prop_ps_pt_read_rest_seq_slot_ta_tb_tg_th_top_turn_va_view_vl_vo)]
-fn go(w: Walk, t: &[u8], out: &mut [u8], list: &mut [u8], work: &mut [u8], c: Place) -> Walk
+#[cycle(writing)]
+fn moved_out(w: Walk, t: &[u8], out: &mut [u8], list: &mut [u8], work: &mut [u8], c: Place) -> Walk
     ensures { Emitted t.now c.left w.at result.at (going_of out.old list.old work.old w) (going_of out.new list.new work.new result) (λ p. emits (place_of c) (out_of p)) }
 {
     if c.left == 0 {
@@ -1538,7 +1506,7 @@ fn go(w: Walk, t: &[u8], out: &mut [u8], list: &mut [u8], work: &mut [u8], c: Pl
             let q = step(t, p, 2);
             let n = wide_at(t, q);
             let u = w.copy(t, out, step(t, q, 2));
-            let u = seq(
+            let u = turns(
                 u,
                 t,
                 out,
@@ -1551,7 +1519,7 @@ fn go(w: Walk, t: &[u8], out: &mut [u8], list: &mut [u8], work: &mut [u8], c: Pl
                 n,
             );
             if has_second(t, p) {
-                return go(u, t, out, list, work, inside(c, left));
+                return moved_out(u, t, out, list, work, inside(c, left));
             }
             u
         }
@@ -1567,8 +1535,8 @@ fn go(w: Walk, t: &[u8], out: &mut [u8], list: &mut [u8], work: &mut [u8], c: Pl
 }
 
 // `let pattern = temporary` for each pattern that is moved out of a list, later ones first, by halves.
-#[cycle(add_ag_an_ar_ba_bi_bl_body_ca_da_db_decl_deep_dh_dr_eb_ek_fb_fs_fun_go_gv_head_item_items_key_keys_kv_lit_lo_mv_node_ns_oa_os_own_pa_plain_pr_prop_ps_pt_read_rest_seq_slot_ta_tb_tg_th_top_turn_va_view_vl_vo)]
-fn ba(
+#[cycle(writing)]
+fn fronts_of_items(
     w: Walk,
     t: &[u8],
     out: &mut [u8],
@@ -1589,24 +1557,24 @@ fn ba(
             if peek(t, first) == 0 {
                 return w;
             }
-            return mv(w, t, out, list, work, c, first);
+            return fronts_of_pattern(w, t, out, list, work, c, first);
         }
         let left = less(c.left);
         let q = step(t, first, 2);
         if has_nested_object_rest(t, left, q) {
-            return mv(w, t, out, list, work, under(c, left), q);
+            return fronts_of_pattern(w, t, out, list, work, under(c, left), q);
         }
         return w;
     }
     let half = n / 2;
     let mid = skip_items(t, arrays, half, c.left, first);
-    let u = ba(w, t, out, list, work, c, arrays, mid, n - half);
-    ba(u, t, out, list, work, c, arrays, first, half)
+    let u = fronts_of_items(w, t, out, list, work, c, arrays, mid, n - half);
+    fronts_of_items(u, t, out, list, work, c, arrays, first, half)
 }
 
 // The same for the patterns that are moved out of the one at p.
-#[cycle(add_ag_an_ar_ba_bi_bl_body_ca_da_db_decl_deep_dh_dr_eb_ek_fb_fs_fun_go_gv_head_item_items_key_keys_kv_lit_lo_mv_node_ns_oa_os_own_pa_plain_pr_prop_ps_pt_read_rest_seq_slot_ta_tb_tg_th_top_turn_va_view_vl_vo)]
-fn mv(
+#[cycle(writing)]
+fn fronts_of_pattern(
     w: Walk,
     t: &[u8],
     out: &mut [u8],
@@ -1623,26 +1591,26 @@ fn mv(
     let left = less(c.left);
     let kind = peek(t, p);
     match kind {
-        kinds::OBJECT_PATTERN => add(w, t, out, list, work, c, p, p),
+        kinds::OBJECT_PATTERN => front(w, t, out, list, work, c, p, p),
         kinds::ARRAY_PATTERN => {
             let q = step(t, p, 2);
             let n = wide_at(t, q);
             let first = step(t, q, 2);
             if has_second(t, p) {
                 let r = skip_items(t, true, n, left, first);
-                let u = mv(w, t, out, list, work, under(c, left), r);
-                return ba(u, t, out, list, work, under(c, left), true, first, n);
+                let u = fronts_of_pattern(w, t, out, list, work, under(c, left), r);
+                return fronts_of_items(u, t, out, list, work, under(c, left), true, first, n);
             }
-            ba(w, t, out, list, work, under(c, left), true, first, n)
+            fronts_of_items(w, t, out, list, work, under(c, left), true, first, n)
         }
-        kinds::DEFAULT => add(w, t, out, list, work, under(c, left), step(t, p, 2), p),
+        kinds::DEFAULT => front(w, t, out, list, work, under(c, left), step(t, p, 2), p),
         _ => w,
     }
 }
 
 // A new statement: let the pattern at p be the temporary in the place of o.
-#[cycle(add_ag_an_ar_ba_bi_bl_body_ca_da_db_decl_deep_dh_dr_eb_ek_fb_fs_fun_go_gv_head_item_items_key_keys_kv_lit_lo_mv_node_ns_oa_os_own_pa_plain_pr_prop_ps_pt_read_rest_seq_slot_ta_tb_tg_th_top_turn_va_view_vl_vo)]
-fn add(
+#[cycle(writing)]
+fn front(
     w: Walk,
     t: &[u8],
     out: &mut [u8],
@@ -1657,14 +1625,13 @@ fn add(
     let root = at_root(c);
     let d = marked(inside(c, c.left), w.mark());
     if has_nested_object_rest(t, c.left, p) {
-        let r = refusal_below(t, c.left, p);
-        if 0 < r {
-            return w.refuse(out, r);
+        if let Some(r) = refusal_below(t, c.left, p) {
+            return w.refuse(out, u8::from(r));
         }
         let u = pattern_hands(w, t, list, work, c.left, p, root);
         let k = pattern_declarators(t, c.left, p);
         let u = u.declaration(out, written::LET, k).to(p);
-        return pa(
+        return declarators(
             u,
             t,
             out,
@@ -1683,8 +1650,8 @@ fn add(
 }
 
 // A function body with new statements in front.
-#[cycle(add_ag_an_ar_ba_bi_bl_body_ca_da_db_decl_deep_dh_dr_eb_ek_fb_fs_fun_go_gv_head_item_items_key_keys_kv_lit_lo_mv_node_ns_oa_os_own_pa_plain_pr_prop_ps_pt_read_rest_seq_slot_ta_tb_tg_th_top_turn_va_view_vl_vo)]
-fn body(
+#[cycle(writing)]
+fn function_body(
     w: Walk,
     t: &[u8],
     out: &mut [u8],
@@ -1716,7 +1683,7 @@ fn body(
     );
     let q = u.at;
     let k = wide_at(t, q);
-    let u = ba(
+    let u = fronts_of_items(
         u.wide(out, k + more),
         t,
         out,
@@ -1731,8 +1698,8 @@ fn body(
 }
 
 // The block of a catch or a loop, or the statement that becomes one, with new statements in front.
-#[cycle(add_ag_an_ar_ba_bi_bl_body_ca_da_db_decl_deep_dh_dr_eb_ek_fb_fs_fun_go_gv_head_item_items_key_keys_kv_lit_lo_mv_node_ns_oa_os_own_pa_plain_pr_prop_ps_pt_read_rest_seq_slot_ta_tb_tg_th_top_turn_va_view_vl_vo)]
-fn bl(
+#[cycle(writing)]
+fn block_body(
     w: Walk,
     t: &[u8],
     out: &mut [u8],
@@ -1754,7 +1721,7 @@ fn bl(
         kinds::BLOCK => {
             let q = step(t, p, 4);
             let k = wide_at(t, q);
-            let u = ba(
+            let u = fronts_of_items(
                 w.copy(t, out, q).wide(out, k + more),
                 t,
                 out,
@@ -1778,7 +1745,7 @@ fn bl(
             )
         }
         kinds::EMPTY => {
-            let u = ba(
+            let u = fronts_of_items(
                 w.block(out, more),
                 t,
                 out,
@@ -1792,7 +1759,7 @@ fn bl(
             u.to(skip(t, c.left, p))
         }
         _ => {
-            let u = ba(
+            let u = fronts_of_items(
                 w.block(out, more + 1),
                 t,
                 out,
@@ -1809,35 +1776,31 @@ fn bl(
 }
 
 // A function.
-#[cycle(add_ag_an_ar_ba_bi_bl_body_ca_da_db_decl_deep_dh_dr_eb_ek_fb_fs_fun_go_gv_head_item_items_key_keys_kv_lit_lo_mv_node_ns_oa_os_own_pa_plain_pr_prop_ps_pt_read_rest_seq_slot_ta_tb_tg_th_top_turn_va_view_vl_vo)]
-fn fun(w: Walk, t: &[u8], out: &mut [u8], list: &mut [u8], work: &mut [u8], c: Place) -> Walk
+#[cycle(writing)]
+fn function(w: Walk, t: &[u8], out: &mut [u8], list: &mut [u8], work: &mut [u8], c: Place) -> Walk
     ensures { byte_at t.now w.at ≡ 14 → Ruled t.now c.left w.at result.at (going_of out.old list.old work.old w) (going_of out.new list.new work.new result) (emits (place_of c)) }
 {
     let p = w.at;
     let left = less(c.left);
     let d = scoped(c, left);
-    if any_moved(t, c.left, p, 3) {
-        if stands(t, c.left, p, 5) {
-            let q = step(t, p, 5);
-            let bits = peek(t, step(t, p, 1));
-            let s = skip_slot(t, NODE_FIELD, bits / 4 % 2, left, q);
-            let n = wide_at(t, s);
-            let first = step(t, s, 2);
-            let u = moves_make(w, t, work, left, first, n).copy(t, out, q);
-            let u = slot(u, t, out, list, work, d, NODE_FIELD, bits / 4 % 2, false).copy(
-                t, out, first,
-            );
-            let u = seq(u, t, out, list, work, d, false, Mode::Binding, false, n);
-            let u = slot(u, t, out, list, work, d, NODE_FIELD, bits / 16 % 2, false);
-            return body(u, t, out, list, work, d, first, n).to(skip(t, c.left, p));
-        }
+    if any_moved(t, c.left, p, 3) && stands(t, c.left, p, 5) {
+        let q = step(t, p, 5);
+        let bits = peek(t, step(t, p, 1));
+        let s = skip_slot(t, NODE_FIELD, bits / 4 % 2, left, q);
+        let n = wide_at(t, s);
+        let first = step(t, s, 2);
+        let u = moves_make(w, t, work, left, first, n).copy(t, out, q);
+        let u = slot(u, t, out, list, work, d, NODE_FIELD, bits / 4 % 2, false).copy(t, out, first);
+        let u = turns(u, t, out, list, work, d, false, Mode::Binding, false, n);
+        let u = slot(u, t, out, list, work, d, NODE_FIELD, bits / 16 % 2, false);
+        return function_body(u, t, out, list, work, d, first, n).to(skip(t, c.left, p));
     }
     plain(w, t, out, list, work, c)
 }
 
 // An arrow function.
-#[cycle(add_ag_an_ar_ba_bi_bl_body_ca_da_db_decl_deep_dh_dr_eb_ek_fb_fs_fun_go_gv_head_item_items_key_keys_kv_lit_lo_mv_node_ns_oa_os_own_pa_plain_pr_prop_ps_pt_read_rest_seq_slot_ta_tb_tg_th_top_turn_va_view_vl_vo)]
-fn ar(w: Walk, t: &[u8], out: &mut [u8], list: &mut [u8], work: &mut [u8], c: Place) -> Walk
+#[cycle(writing)]
+fn arrow(w: Walk, t: &[u8], out: &mut [u8], list: &mut [u8], work: &mut [u8], c: Place) -> Walk
     ensures { byte_at t.now w.at ≡ 17 → Ruled t.now c.left w.at result.at (going_of out.old list.old work.old w) (going_of out.new list.new work.new result) (emits (place_of c)) }
 {
     let p = w.at;
@@ -1848,16 +1811,16 @@ fn ar(w: Walk, t: &[u8], out: &mut [u8], list: &mut [u8], work: &mut [u8], c: Pl
         let n = wide_at(t, q);
         let first = step(t, q, 2);
         let u = moves_make(w, t, work, left, first, n).copy(t, out, first);
-        let u = seq(u, t, out, list, work, d, false, Mode::Binding, false, n);
+        let u = turns(u, t, out, list, work, d, false, Mode::Binding, false, n);
         let u = slot(u, t, out, list, work, d, NODE_FIELD, second(t, p), false);
-        return eb(u, t, out, list, work, d, first, n).to(skip(t, c.left, p));
+        return arrow_body(u, t, out, list, work, d, first, n).to(skip(t, c.left, p));
     }
     plain(w, t, out, list, work, c)
 }
 
 // Its body; an expression is returned.
-#[cycle(add_ag_an_ar_ba_bi_bl_body_ca_da_db_decl_deep_dh_dr_eb_ek_fb_fs_fun_go_gv_head_item_items_key_keys_kv_lit_lo_mv_node_ns_oa_os_own_pa_plain_pr_prop_ps_pt_read_rest_seq_slot_ta_tb_tg_th_top_turn_va_view_vl_vo)]
-fn eb(
+#[cycle(writing)]
+fn arrow_body(
     w: Walk,
     t: &[u8],
     out: &mut [u8],
@@ -1871,10 +1834,10 @@ fn eb(
 {
     let p = w.at;
     if peek(t, p) == kinds::FUNCTION_BODY {
-        return body(w, t, out, list, work, c, first, n);
+        return function_body(w, t, out, list, work, c, first, n);
     }
     let more = moved_in(t, c.left, first, n);
-    let u = ba(
+    let u = fronts_of_items(
         w.put2(out, written::FUNCTION_BODY, written::SECOND)
             .wide(out, more + 1),
         t,
@@ -1895,28 +1858,32 @@ fn eb(
 }
 
 // A catch.
-#[cycle(add_ag_an_ar_ba_bi_bl_body_ca_da_db_decl_deep_dh_dr_eb_ek_fb_fs_fun_go_gv_head_item_items_key_keys_kv_lit_lo_mv_node_ns_oa_os_own_pa_plain_pr_prop_ps_pt_read_rest_seq_slot_ta_tb_tg_th_top_turn_va_view_vl_vo)]
-fn ca(w: Walk, t: &[u8], out: &mut [u8], list: &mut [u8], work: &mut [u8], c: Place) -> Walk
+#[cycle(writing)]
+fn catch_clause(
+    w: Walk,
+    t: &[u8],
+    out: &mut [u8],
+    list: &mut [u8],
+    work: &mut [u8],
+    c: Place,
+) -> Walk
     ensures { byte_at t.now w.at ≡ 10 → Ruled t.now c.left w.at result.at (going_of out.old list.old work.old w) (going_of out.new list.new work.new result) (emits (place_of c)) }
 {
     let p = w.at;
     let left = less(c.left);
     let q = step(t, p, 2);
-    if has_first(t, p) {
-        if is_moved(t, left, q) {
-            let d = scoped(c, left);
-            let u = moves_make(w, t, work, left, q, 1).copy(t, out, q);
-            let u = seq(u, t, out, list, work, d, false, Mode::Binding, false, 1);
-            return bl(u, t, out, list, work, d, false, q, 1).to(skip(t, c.left, p));
-        }
-        return plain(w, t, out, list, work, c);
+    if has_first(t, p) && is_moved(t, left, q) {
+        let d = scoped(c, left);
+        let u = moves_make(w, t, work, left, q, 1).copy(t, out, q);
+        let u = turns(u, t, out, list, work, d, false, Mode::Binding, false, 1);
+        return block_body(u, t, out, list, work, d, false, q, 1).to(skip(t, c.left, p));
     }
     plain(w, t, out, list, work, c)
 }
 
 // The head of a for-in or for-of loop.
-#[cycle(add_ag_an_ar_ba_bi_bl_body_ca_da_db_decl_deep_dh_dr_eb_ek_fb_fs_fun_go_gv_head_item_items_key_keys_kv_lit_lo_mv_node_ns_oa_os_own_pa_plain_pr_prop_ps_pt_read_rest_seq_slot_ta_tb_tg_th_top_turn_va_view_vl_vo)]
-fn head(w: Walk, t: &[u8], out: &mut [u8], list: &mut [u8], work: &mut [u8], c: Place) -> Walk
+#[cycle(writing)]
+fn loop_head(w: Walk, t: &[u8], out: &mut [u8], list: &mut [u8], work: &mut [u8], c: Place) -> Walk
     ensures { eqb (byte_at t.now w.at) 7 || eqb (byte_at t.now w.at) 8 ≡ true → Ruled t.now c.left w.at result.at (going_of out.old list.old work.old w) (going_of out.new list.new work.new result) (emits (place_of c)) }
 {
     let p = w.at;
@@ -1924,7 +1891,7 @@ fn head(w: Walk, t: &[u8], out: &mut [u8], list: &mut [u8], work: &mut [u8], c: 
     let q = step(t, p, 4);
     if peek(t, q) == kinds::DECLARATION {
         if any_moved(t, left, q, 2) {
-            return dh(w, t, out, list, work, c).to(skip(t, c.left, p));
+            return declaring_head(w, t, out, list, work, c).to(skip(t, c.left, p));
         }
         return plain(w, t, out, list, work, c);
     }
@@ -1932,14 +1899,21 @@ fn head(w: Walk, t: &[u8], out: &mut [u8], list: &mut [u8], work: &mut [u8], c: 
         return w.refuse(out, REST_BELOW_ARRAY_REST).to(skip(t, c.left, p));
     }
     if has_nested_object_rest(t, left, q) {
-        return th(w, t, out, list, work, c).to(skip(t, c.left, p));
+        return assigning_head(w, t, out, list, work, c).to(skip(t, c.left, p));
     }
     plain(w, t, out, list, work, c)
 }
 
 // One that declares.
-#[cycle(add_ag_an_ar_ba_bi_bl_body_ca_da_db_decl_deep_dh_dr_eb_ek_fb_fs_fun_go_gv_head_item_items_key_keys_kv_lit_lo_mv_node_ns_oa_os_own_pa_plain_pr_prop_ps_pt_read_rest_seq_slot_ta_tb_tg_th_top_turn_va_view_vl_vo)]
-fn dh(w: Walk, t: &[u8], out: &mut [u8], list: &mut [u8], work: &mut [u8], c: Place) -> Walk
+#[cycle(writing)]
+fn declaring_head(
+    w: Walk,
+    t: &[u8],
+    out: &mut [u8],
+    list: &mut [u8],
+    work: &mut [u8],
+    c: Place,
+) -> Walk
     ensures { eqb (byte_at t.now w.at) 7 || eqb (byte_at t.now w.at) 8 ≡ true → byte_at t.now (onward t.now w.at 4) ≡ 4 → any is_moved (items_at_of 2 (node_at_of 1 (look_node t.now c.left w.at).value)) ≡ true → Done t.now c.left w.at (going_of out.old list.old work.old w) (going_of out.new list.new work.new result) (emits (place_of c)) }
 {
     if c.left == 0 {
@@ -1952,7 +1926,7 @@ fn dh(w: Walk, t: &[u8], out: &mut [u8], list: &mut [u8], work: &mut [u8], c: Pl
     let n = wide_at(t, s);
     let first = step(t, s, 2);
     let u = moves_make(w, t, work, under, first, n).copy(t, out, first);
-    let u = seq(
+    let u = turns(
         u,
         t,
         out,
@@ -1965,13 +1939,20 @@ fn dh(w: Walk, t: &[u8], out: &mut [u8], list: &mut [u8], work: &mut [u8], c: Pl
         n,
     );
     let u = node(u, t, out, list, work, scoped(c, left));
-    let u = bl(u, t, out, list, work, scoped(c, left), true, first, n);
+    let u = block_body(u, t, out, list, work, scoped(c, left), true, first, n);
     await_of(u, t, out, p)
 }
 
 // One that assigns.
-#[cycle(add_ag_an_ar_ba_bi_bl_body_ca_da_db_decl_deep_dh_dr_eb_ek_fb_fs_fun_go_gv_head_item_items_key_keys_kv_lit_lo_mv_node_ns_oa_os_own_pa_plain_pr_prop_ps_pt_read_rest_seq_slot_ta_tb_tg_th_top_turn_va_view_vl_vo)]
-fn th(w: Walk, t: &[u8], out: &mut [u8], list: &mut [u8], work: &mut [u8], c: Place) -> Walk
+#[cycle(writing)]
+fn assigning_head(
+    w: Walk,
+    t: &[u8],
+    out: &mut [u8],
+    list: &mut [u8],
+    work: &mut [u8],
+    c: Place,
+) -> Walk
     ensures { eqb (byte_at t.now w.at) 7 || eqb (byte_at t.now w.at) 8 ≡ true → (byte_at t.now (onward t.now w.at 4) ≡ 4 → ⊥) → has_array_rest_over_object_rest (node_at_of 1 (look_node t.now c.left w.at).value) ≡ false → has_object_rest (node_at_of 1 (look_node t.now c.left w.at).value) ≡ true → Done t.now c.left w.at (going_of out.old list.old work.old w) (going_of out.new list.new work.new result) (emits (place_of c)) }
 {
     if c.left == 0 {
@@ -1987,13 +1968,13 @@ fn th(w: Walk, t: &[u8], out: &mut [u8], list: &mut [u8], work: &mut [u8], c: Pl
         .put2(out, written::DECLARATOR, written::FIRST)
         .temporary(out, list, work, q, stems::PLACE);
     let u = node(u.to(skip(t, left, q)), t, out, list, work, d);
-    let u = tb(u, t, out, list, work, d, q);
+    let u = assigning_body(u, t, out, list, work, d, q);
     await_of(u, t, out, p)
 }
 
 // The body of such a loop, with the assignment to the target at p in front.
-#[cycle(add_ag_an_ar_ba_bi_bl_body_ca_da_db_decl_deep_dh_dr_eb_ek_fb_fs_fun_go_gv_head_item_items_key_keys_kv_lit_lo_mv_node_ns_oa_os_own_pa_plain_pr_prop_ps_pt_read_rest_seq_slot_ta_tb_tg_th_top_turn_va_view_vl_vo)]
-fn tb(
+#[cycle(writing)]
+fn assigning_body(
     w: Walk,
     t: &[u8],
     out: &mut [u8],
@@ -2010,7 +1991,7 @@ fn tb(
         kinds::BLOCK => {
             let q = step(t, b, 4);
             let k = wide_at(t, q);
-            let u = ta(
+            let u = target_statement(
                 w.copy(t, out, q).wide(out, k + 1),
                 t,
                 out,
@@ -2031,19 +2012,25 @@ fn tb(
                 true,
             )
         }
-        kinds::EMPTY => ta(w.block(out, 1), t, out, list, work, scoped(c, c.left), p).to(skip(
-            t, c.left, b,
-        )),
+        kinds::EMPTY => target_statement(
+            w.block(out, 1),
+            t,
+            out,
+            list,
+            work,
+            scoped(c, c.left),
+            p,
+        ).to(skip(t, c.left, b)),
         _ => {
-            let u = ta(w.block(out, 2), t, out, list, work, scoped(c, c.left), p);
+            let u = target_statement(w.block(out, 2), t, out, list, work, scoped(c, c.left), p);
             item(u.to(b), t, out, list, work, scoped(c, c.left), false, true)
         }
     }
 }
 
 // A new statement: the target at p takes the temporary in its place.
-#[cycle(add_ag_an_ar_ba_bi_bl_body_ca_da_db_decl_deep_dh_dr_eb_ek_fb_fs_fun_go_gv_head_item_items_key_keys_kv_lit_lo_mv_node_ns_oa_os_own_pa_plain_pr_prop_ps_pt_read_rest_seq_slot_ta_tb_tg_th_top_turn_va_view_vl_vo)]
-fn ta(
+#[cycle(writing)]
+fn target_statement(
     w: Walk,
     t: &[u8],
     out: &mut [u8],
@@ -2059,5 +2046,5 @@ fn ta(
     let u = w
         .put2(out, written::EXPRESSION_STATEMENT, written::FIRST_TWO)
         .new_mark(out);
-    an(u, t, out, list, work, d, root, ASSIGNS, p, false, p)
+    assignment_to(u, t, out, list, work, d, root, ASSIGNS, p, false, p)
 }

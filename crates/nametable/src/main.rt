@@ -4,21 +4,15 @@
 // Standard output.
 const STDOUT_FILENO: i32 = 1;
 
-fn wide(b: u8) -> u64 {
-    b as u64
-}
-
 fn show(table: &[u8]) {
-    let mut i = 0;
-    while i < table.len() {
-        io::print_hex(STDOUT_FILENO, wide(table[i]), 2);
-        i += 1;
+    for &byte in table {
+        io::print_hex(STDOUT_FILENO, u64::from(byte), 2);
     }
     io::write_all(STDOUT_FILENO, b"\n");
 }
 
 fn main() {
-    let mut table: [u8; 64] = [0; 64];
+    let mut table = [0u8; 64];
     printer::names::make(&mut table);
     show(&table);
 }

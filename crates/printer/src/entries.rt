@@ -1,7 +1,7 @@
-// What is kept of a tree, as numbers in a list: four bytes each, in fixed memory. The last four binary digits are a code: those of `look` for a node, a list, a text,
-// a number and a hole, 4 for a mark or a byte, 8 the end of a node, 9 the end of a list, and 10 to 13 a leaf from its begin to its
-// end. In the sixteen digits above it stands a node's kind and bit map, a list's count, a number, or the position of a text or of a
-// leaf's first text; above those the node's byte.
+// What is kept of a tree, as numbers in a list: four bytes each, in fixed memory. The last four binary digits are a code: those
+// of `look` for a node, a list, a text, a number and a hole, 4 for a mark or a byte, 8 the end of a node, 9 the end of a list, and
+// 10 to 13 a leaf from its begin to its end. In the sixteen digits above it stands a node's kind and bit map, a list's count, a
+// number, or the position of a text or of a leaf's first text; above those the node's byte.
 ghost use Rattle.std.specs.Prelude.{◌≡◌, cond, ◌+◌, ◌*◌, ◌/◌, ◌%◌, ◌<◌, eqb, get_or, set};
 ghost use Rattle.printer.specs.Met.{number_of, Leafed};
 

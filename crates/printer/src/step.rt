@@ -1,4 +1,4 @@
-// One entry of the pass.
+// One entry of the pass. Tables, arrays and text are handed over one by one: structs of them go through memory, which took longer.
 ghost use Rattle.std.specs.Prelude.{◌≡◌, List, [], ◌∷◌, cond, ℕ, ◌<◌, ◌+◌, ◌-◌, ◌/◌, ◌%◌, length};
 ghost use Rattle.printer.specs.Layout.{lead_of};
 ghost use Rattle.printer.specs.Places.{field_in, manner_in, Plain, is_quasis, is_quasi, number_bytes};
@@ -21,7 +21,7 @@ fn moved(s: State, top: usize, spot: usize) -> State
     State { top, spot, ..s }
 }
 
-// One more is held: a quasi by its position from 1 on, or 0, a stop.
+// One more is held: a quasi by its position from 1 on, or 0, a stop; two bytes each, in fixed memory.
 fn hold(starts: &mut [u16], count: usize, start: usize) -> usize
     ensures { start < 65536 → count < length starts.old → (tree : List ℕ) → Kept tree starts.old starts.new count result (cell_in_of tree start ∷ []) }
 {

@@ -1,9 +1,8 @@
 -- The walk of an accepted tree from its root, begun with cleared cells and ended, gives the definition's outcome.
 -- Assumes nothing.
-use mathlib.Core.Path.{◌≡◌, refl, sym, ap, ◌∙◌, subst}
+use mathlib.Core.Path.{◌≡◌, refl, sym, ap, ap₂, ◌∙◌, subst}
 use mathlib.Core.Bool.{Bool, true, false, cond}
-use mathlib.Core.List.{List, [], append-nil}
-use Rattle.std.specs.Prelude.{Option, Some, None}
+use mathlib.Core.List.{List, [], ◌∷◌, append-nil}
 use Prim.Native.Nat.{ℕ, zero, suc, ◌+◌, ◌-◌, ◌*◌, ◌%◌, ◌<◌, ◌≤◌}
 use native.Mathlib.Omega.{arith}
 use lib.Dec.{eqb, ltb}
@@ -15,19 +14,23 @@ use Rattle.tree.specs.Grammar.Stage.{input}
 use Rattle.tree.specs.Read.{Got, Refusal, number_of, read_tree}
 use Rattle.tree.specs.Read.Got.{got}
 use Rattle.tree.specs.Answer.{Answers}
-use Rattle.tree.specs.declared.read.Answer.{Answer}
-use Rattle.tree.specs.declared.read.Answer.TheVariants.{Read, Refused}
+use Rattle.std.proofs.Common.{Ok, Err, Some, None}
+use Rattle.std.proofs.Common as std
+use Rattle.tree.specs.Answer.{refusal_number}
+use Rattle.tree.specs.declared.read.Reading.{Reading}
+use Rattle.tree.specs.declared.read.Refusal as reader
+use Rattle.rest_spread.specs.declared.Refusal as own
+use Rattle.std.proofs.lemmas.Result.{MatchResult-at_ok, MatchResult-at_err}
 use Rattle.tree.specs.WellFormed.{Bytes}
 use Rattle.tree.specs.Look.{look_node, Seen, seen}
 use Rattle.tree.specs.Note as note
 use Rattle.tree.specs.Reading.{read_into}
 use Rattle.tree.specs.Read.Refusal.{not_a_tree}
-use Rattle.tree.proofs.AnswerByNumber.{answer, answer_is}
 use Rattle.tree.proofs.NotesKnown.{Noted, filled_law, within_limit}
 use Rattle.tree.proofs.Look.{tree_node}
 use Rattle.tree.proofs.Sound.{each_byte}
 use Rattle.lowering.specs.Weight.{walked}
-use Rattle.lowering.specs.Refusals.{limit_outside, unknown_options, small_work}
+use Rattle.lowering.specs.Refusals.{limit_outside, unknown_options, small_work, too_long_of}
 use Rattle.lowering.specs.Answer.{Lent, Result, Outcome, top, highest_limit, limit_refused, in_force, after_reading, filled, lowering, outcome_of, outcome}
 use Rattle.lowering.proofs.Answers.{ByWalk, walk_refuses}
 use Rattle.lowering.proofs.RefusalOrder.{limit_outside_lem, options_unknown, work_small, reading_decides}
@@ -46,7 +49,8 @@ use Rattle.walk.specs.Run.Way.{whole, full}
 use Rattle.walk.proofs.KeysOnceFull.{met_first}
 use Rattle.sink.proofs.Indices.{full_nothing}
 use Rattle.walk.specs.Whole.{Good}
-use Rattle.rest_spread.specs.Entry.{lent_of, handed_back}
+use Rattle.rest_spread.specs.Entry.{lent_of, handed_back, refused_with, Ends}
+use Rattle.rest_spread.specs.Entry.{number_of as own_number}
 use Rattle.rest_spread.specs.declared.Lowered.{Lowered}
 use Rattle.walk.proofs.AcceptedIsGood.{noted_good}
 use Rattle.rest_spread.proofs.Uncleared.{Twins, finished_same, sink_same, tree_same}
@@ -89,7 +93,7 @@ begun_mark a b k next s t = ap (λ (z : Sink). z.mark) (sink_same s (start a b k
 -- ---- what is lent
 
 -- a call keeps the lengths of the slices
-lent_kept : (a b c a' b' c' : ℕ) → a' ≡ a → b' ≡ b → c' ≡ c
+pub lent_kept : (a b c a' b' c' : ℕ) → a' ≡ a → b' ≡ b → c' ≡ c
     → Path Lent (record { tree_slice = a'; list_slice = b'; work_slice = c' }) (record { tree_slice = a; list_slice = b; work_slice = c })
 lent_kept a b c a' b' c' e f g = λ j. record { tree_slice = (e) j; list_slice = (f) j; work_slice = (g) j }
 
@@ -99,7 +103,7 @@ zeros : (k : ℕ) → replicate k 0 ≡ filled k []
 unfolding filled
 zeros k = let e : k ≡ k - length {A = ℕ} [] = omega arith in ap (λ (x : ℕ). replicate x 0) e
 
-pub refused_all : (answer a b c : ℕ) (o l w : List ℕ) (r : Handed) → end_of o l w r ≡ nothing a b c
+refused_all : (answer a b c : ℕ) (o l w : List ℕ) (r : Handed) → end_of o l w r ≡ nothing a b c
     → handed_back (record { answer = answer; helpers = 0; options = 0; tree_len = 0; list_len = 0 }) o l w
     ≡ outcome_of (record { tree_slice = a; list_slice = b; work_slice = c }) (Result.refusal answer)
 unfolding nothing outcome_of
@@ -108,6 +112,12 @@ refused_all answer a b c o l w r h =
     let y = ap (λ (e : Ended). e.list) h ∙ zeros b in
     let z = ap (λ (e : Ended). e.work) h ∙ zeros c in
     λ j. record { answer = answer; helpers = 0; options = 0; tree_length = 0; list_length_of = 0; tree_out = (x) j; list_out = (y) j; work = (z) j }
+
+pub refused_by_number : (e : own.Refusal) (answer a b c : ℕ) (o l w : List ℕ) (r : Handed) → answer ≡ own_number e → end_of o l w r ≡ nothing a b c
+    → handed_back (record { answer = answer; helpers = 0; options = 0; tree_len = 0; list_len = 0 }) o l w
+    ≡ refused_with (record { tree_slice = a; list_slice = b; work_slice = c }) e
+refused_by_number e answer a b c o l w r n h =
+    refused_all answer a b c o l w r h ∙ ap (λ (m : ℕ). outcome_of (record { tree_slice = a; list_slice = b; work_slice = c }) (Result.refusal m)) n
 
 -- each number by which the walk refuses is a byte
 walk_byte : (m : ℕ) → ByWalk m → m < 256
@@ -133,17 +143,31 @@ pub handed_over : (options : ℕ) (o l w : List ℕ) (e : Ended) → end_of o l 
 unfolding outcome_from
 handed_over options o l w e h = ap (outcome_from options) h
 
+-- an outcome with the number of a refusal is that of the refusal
+answered : (s : Lent) (r : Result) (n : ℕ) → 0 < n → n ≡ (outcome_of s r).answer → outcome_of s (Result.refusal n) ≡ outcome_of s r
+unfolding outcome_of
+answered s (Result.refusal m) n p e = ap (λ (k : ℕ). outcome_of s (Result.refusal k)) e
+answered s (Result.lowered h o t l) n p e = absurd (omega arith)
+
 -- ---- what the reader answers
 
-refused_by : (g : Got Node) (m : ℕ) → Refused m ≡ answer g → (r : Refusal) × ((g ≡ Got.refused r) × (m ≡ number_of r))
-unfolding answer
-refused_by (got n q k) m e = let w : ◌≡◌ {A = ℕ} 0 1 = cc in absurd (omega arith)
-refused_by (Got.refused r) m e = (r, (refl, cc))
+refused_by : (g : Got Node) (m : reader.Refusal) → Answers (Err m) g → (r : Refusal) × ((g ≡ Got.refused r) × (refusal_number m ≡ number_of r))
+refused_by (got n q k) m h =
+    let e : [] ≡ q ∷ k ∷ [] = h.values in
+    let w : ◌≡◌ {A = ℕ} 0 1 = cc in
+    absurd (omega arith)
+refused_by (Got.refused r) m h = (r, (refl, h.number))
 
-read_by : (g : Got Node) (q j : ℕ) → Read q j ≡ answer g → (n : Node) × (g ≡ got n q j)
-unfolding answer
-read_by (got n p k) q j e = (n, cc)
-read_by (Got.refused r) q j e = let w : ◌≡◌ {A = ℕ} 0 1 = cc in absurd (omega arith)
+read_by : (g : Got Node) (x : Reading) → Answers (Ok x) g → (n : Node) × (g ≡ got n x.end x.mark)
+read_by (got n p k) x h =
+    let e : x.end ∷ x.mark ∷ [] ≡ p ∷ k ∷ [] = h.values in
+    let a : p ≡ x.end = cc in
+    let b : k ≡ x.mark = cc in
+    (n, ap₂ (got n) a b)
+read_by (Got.refused r) x h =
+    let e : x.end ∷ x.mark ∷ [] ≡ [] = h.values in
+    let w : ◌≡◌ {A = ℕ} 0 1 = cc in
+    absurd (omega arith)
 
 -- ---- the limit that is tested
 
@@ -192,16 +216,14 @@ module _ (limit options : ℕ) (tree out list work : List ℕ) where
             walked_to mark c n (state_of o l w k) (state_of o' l' w' k') 0 r' refl (begun_mark (length out) (length list) (length work) mark (state_of o l w k) (begun big)) refl d
 
       -- something is refused
-      pub ends_refused : (x : Outcome) (answer : ℕ) → answer ≡ low r' → 0 < r' → length o' ≡ length out → length l' ≡ length list → length w' ≡ length work
-          → x ≡ outcome_of (lent_of o' l' w') (Result.refusal answer)
+      pub ends_refused : (answer : ℕ) → answer ≡ low r' → 0 < r'
           → (given : List ℕ) (n : Node) (q : ℕ) → Bytes given → 65536 ≤ length work → read_tree input limit given ≡ got n q mark → Noted limit slice n q mark
-          → x ≡ outcome_of s (after_reading options s (got n q mark))
+          → outcome_of s (Result.refusal answer) ≡ outcome_of s (after_reading options s (got n q mark))
       unfolding after_reading low
-      ends_refused x answer written some a b c e given n q bytes big read known =
+      ends_refused answer written some given n q bytes big read known =
           let first = (ends given n q big read known).1 in
           let same : answer ≡ r' = omega (arith, written, first, refused_byte limit given bytes n q mark read) in
-          e ∙ ap (λ (u : Lent). outcome_of u (Result.refusal answer)) (lent_kept (length out) (length list) (length work) (length o') (length l') (length w') a b c)
-          ∙ ap (λ (m : ℕ). outcome_of s (Result.refusal m)) same
+          ap (λ (m : ℕ). outcome_of s (Result.refusal m)) same
           ∙ ap (outcome_of s) (sym (by_number r' some first))
         where
           by_number : (r : ℕ) → 0 < r → r ≡ first_refused (deeds mark 0 (walked top n)) → after_reading options s (got n q mark) ≡ Result.refusal r
@@ -225,56 +247,69 @@ module _ (limit options : ℕ) (tree out list work : List ℕ) where
 
       pub ends_over : (o'' l'' w'' : List ℕ) → r' ≡ 0 → end_of o'' l'' w'' (handed_of None) ≡ finished (state_of o' l' w' k')
           → (given : List ℕ) (n : Node) (q : ℕ) → Bytes given → 65536 ≤ length work → read_tree input limit given ≡ got n q mark → Noted limit slice n q mark
-          → handed_back (record { answer = 7; helpers = 0; options = 0; tree_len = 0; list_len = 0 }) o'' l'' w''
-          ≡ outcome_of s (after_reading options s (got n q mark))
-      ends_over o'' l'' w'' none' e = ends_handed _ none' (handed_over options o'' l'' w'' (finished (state_of o' l' w' k')) e)
+          → outcome_of s (Result.refusal too_long_of) ≡ outcome_of s (after_reading options s (got n q mark))
+      ends_over o'' l'' w'' none' e given n q bytes big read known =
+          answered s (after_reading options s (got n q mark)) too_long_of (omega arith)
+          (ap (λ (x : Outcome). x.answer) (ends_handed _ none' (handed_over options o'' l'' w'' (finished (state_of o' l' w' k')) e) given n q bytes big read known))
 
   -- what is handed back is the outcome, where it is asked for before the tree is read: `refused` is what the test gave
-  module _ (x : Outcome) (refused : Bool) (tested : refused ≡ limit_refused limit) where
-    pub entry_limit : refused ≡ true → x ≡ outcome_of s (Result.refusal limit_outside) → x ≡ outcome limit options tree s
+  module _ (refused : Bool) (tested : refused ≡ limit_refused limit) where
+    pub entry_limit : (x : Outcome) → refused ≡ true → x ≡ outcome_of s (Result.refusal limit_outside) → x ≡ outcome limit options tree s
     unfolding outcome
-    entry_limit t h = h ∙ ap (outcome_of s) (sym (limit_outside_lem limit options tree s (sym tested ∙ t)))
+    entry_limit x t h = h ∙ ap (outcome_of s) (sym (limit_outside_lem limit options tree s (sym tested ∙ t)))
 
-    pub entry_options : refused ≡ false → 15 < options → x ≡ outcome_of s (Result.refusal unknown_options) → x ≡ outcome limit options tree s
+    pub entry_options : (x : Outcome) → refused ≡ false → 15 < options → x ≡ outcome_of s (Result.refusal unknown_options) → x ≡ outcome limit options tree s
     unfolding outcome
-    entry_options t u h = h ∙ ap (outcome_of s) (sym (options_unknown limit options tree s (sym tested ∙ t) u))
+    entry_options x t u h = h ∙ ap (outcome_of s) (sym (options_unknown limit options tree s (sym tested ∙ t) u))
 
-    pub entry_work : refused ≡ false → options ≤ 15 → length work < 65536 → x ≡ outcome_of s (Result.refusal small_work) → x ≡ outcome limit options tree s
+    pub entry_work : (x : Outcome) → refused ≡ false → options ≤ 15 → length work < 65536 → x ≡ outcome_of s (Result.refusal small_work) → x ≡ outcome limit options tree s
     unfolding outcome
-    entry_work t k u h = h ∙ ap (outcome_of s) (sym (work_small limit options tree s (sym tested ∙ t) k u))
+    entry_work x t k u h = h ∙ ap (outcome_of s) (sym (work_small limit options tree s (sym tested ∙ t) k u))
 
     -- and what the reading gives
-    pub entry_read : refused ≡ false → options ≤ 15 → 65536 ≤ length work → x ≡ outcome_of s (after_reading (options % 8) s (read_tree input limit tree)) → x ≡ outcome limit options tree s
+    pub entry_read : (P : Outcome → Type 0) → refused ≡ false → options ≤ 15 → 65536 ≤ length work → P (outcome_of s (after_reading (options % 8) s (read_tree input limit tree))) → P (outcome limit options tree s)
     unfolding outcome in_force
-    entry_read t k big h = h ∙ ap (outcome_of s) (sym (reading_decides limit options tree s (record { allowed = sym tested ∙ t; known = k; roomy = big })))
+    entry_read P t k big h = subst P (ap (outcome_of s) (sym (reading_decides limit options tree s (record { allowed = sym tested ∙ t; known = k; roomy = big })))) h
 
     -- a tree that is too long is none
-    pub entry_long : refused ≡ false → options ≤ 15 → 65536 ≤ length work → 16384 < length tree → x ≡ outcome_of s (Result.refusal (number_of not_a_tree)) → x ≡ outcome limit options tree s
+    pub entry_long : (x : Outcome) → refused ≡ false → options ≤ 15 → 65536 ≤ length work → 16384 < length tree → x ≡ outcome_of s (Result.refusal (number_of not_a_tree)) → x ≡ outcome limit options tree s
     unfolding after_reading read_tree
-    entry_long t k big long h = entry_read t k big (h ∙ rw (lt-leb (length tree) 16384 long) refl)
+    entry_long x t k big long h = entry_read (λ o. x ≡ o) t k big (h ∙ rw (lt-leb (length tree) 16384 long) refl)
 
 -- ---- the reading
 
-module _ (limit options : ℕ) (tree room out list work : List ℕ) (x : Outcome) (a : Answer) (answered : Answers a (read_tree input limit tree)) where
+module _ (limit options : ℕ) (tree room out list work : List ℕ) (a : std.Result Reading reader.Refusal) (answered : Answers a (read_tree input limit tree)) where
   -- no tree, or one too deep
-  pub read_refused : (m : ℕ) → a ≡ Refused m → x ≡ outcome_of (lent_of out list work) (Result.refusal m) → x ≡ outcome_of (lent_of out list work) (after_reading options (lent_of out list work) (read_tree input limit tree))
+  pub read_refused : (m : reader.Refusal) → a ≡ Err m → outcome_of (lent_of out list work) (Result.refusal (refusal_number m)) ≡ outcome_of (lent_of out list work) (after_reading options (lent_of out list work) (read_tree input limit tree))
   unfolding after_reading
-  read_refused m e h =
-      let g : (r : Refusal) × ((read_tree input limit tree ≡ Got.refused r) × (m ≡ number_of r)) = refused_by (read_tree input limit tree) m (sym e ∙ answer_is a (read_tree input limit tree) answered) in
-      h ∙ ap (λ (k : ℕ). outcome_of (lent_of out list work) (Result.refusal k)) g.1.1
+  read_refused m e =
+      let g : (r : Refusal) × ((read_tree input limit tree ≡ Got.refused r) × (refusal_number m ≡ number_of r)) = refused_by (read_tree input limit tree) m (subst (λ (z : std.Result Reading reader.Refusal). Answers z (read_tree input limit tree)) e answered) in
+      ap (λ (k : ℕ). outcome_of (lent_of out list work) (Result.refusal k)) g.1.1
       ∙ ap (λ (z : Got Node). outcome_of (lent_of out list work) (after_reading options (lent_of out list work) z)) (sym g.1.0)
 
   -- a tree: it is walked with its notes
-  pub read_lowered : (q j : ℕ) (noted : List ℕ) → a ≡ Read q j → ((i : ℕ) → get_or tree i 0 < 256) → ((i : ℕ) → get_or noted i 0 < 256) → noted ≡ read_into (read_tree input limit tree) limit tree room
-      → ((l : List ℕ) (n : Node) (q : ℕ) → Bytes l → 65536 ≤ length work → read_tree input limit l ≡ got n q j → Noted limit noted n q j → x ≡ outcome_of (lent_of out list work) (after_reading options (lent_of out list work) (got n q j)))
-      → length room ≡ length tree + length tree → 65536 ≤ length work → x ≡ outcome_of (lent_of out list work) (after_reading options (lent_of out list work) (read_tree input limit tree))
+  pub read_lowered : (P : Outcome → Type 0) (y : Reading) (noted : List ℕ) → a ≡ Ok y → ((i : ℕ) → get_or tree i 0 < 256) → ((i : ℕ) → get_or noted i 0 < 256) → noted ≡ read_into (read_tree input limit tree) limit tree room
+      → ((l : List ℕ) (n : Node) (q : ℕ) → Bytes l → 65536 ≤ length work → read_tree input limit l ≡ got n q y.mark → Noted limit noted n q y.mark → P (outcome_of (lent_of out list work) (after_reading options (lent_of out list work) (got n q y.mark))))
+      → length room ≡ length tree + length tree → 65536 ≤ length work → P (outcome_of (lent_of out list work) (after_reading options (lent_of out list work) (read_tree input limit tree)))
   unfolding read_into
-  read_lowered q j noted e each all f h long big =
-      let g : (n : Node) × (read_tree input limit tree ≡ got n q j) = read_by (read_tree input limit tree) q j (sym e ∙ answer_is a (read_tree input limit tree) answered) in
+  read_lowered P y noted e each all f h long big =
+      let q : ℕ = y.end in
+      let j : ℕ = y.mark in
+      let g : (n : Node) × (read_tree input limit tree ≡ got n q j) = read_by (read_tree input limit tree) y (subst (λ (z : std.Result Reading reader.Refusal). Answers z (read_tree input limit tree)) e answered) in
       let into : noted ≡ note.filled limit tree room = f ∙ ap (λ (z : Got Node). read_into z limit tree room) g.1 in
       let known : Noted limit noted g.0 q j =
       subst (λ (z : List ℕ). Noted limit z g.0 q j) (sym into) (filled_law limit tree room g.0 q j long g.1 (subst Bytes into (each_byte noted all))) in
-      h tree g.0 q (each_byte tree each) big g.1 known ∙ ap (λ (z : Got Node). outcome_of (lent_of out list work) (after_reading options (lent_of out list work) z)) (sym g.1)
+      subst (λ (z : Got Node). P (outcome_of (lent_of out list work) (after_reading options (lent_of out list work) z))) (sym g.1) (h tree g.0 q (each_byte tree each) big g.1 known)
+
+-- ---- the end of a call
+
+module _ (r : std.Result Lowered own.Refusal) (o l w : List ℕ) (s : Lent) (x : Outcome) (ends : Ends r o l w s x) where
+  pub ends_lowered : (v : Lowered) → r ≡ Ok v → handed_back v o l w ≡ x
+  ends_lowered v e = MatchResult-at_ok _ _ v e ends
+
+  -- the slices have kept their lengths, and are cleared
+  pub ends_with : (e : own.Refusal) → r ≡ Err e → (y : Outcome) (t : Lent) → y ≡ refused_with t e → t ≡ s → y ≡ x
+  ends_with e f y t g h = g ∙ ap (λ (u : Lent). refused_with u e) h ∙ MatchResult-at_err _ _ e f ends
 
 -- ---- for callers
 

@@ -10,14 +10,13 @@ ghost use Rattle.tree.specs.Read.{read_tree};
 ghost use Rattle.tree.specs.Read.Got.{got};
 ghost use Rattle.tree.specs.WellFormed.{Bytes};
 ghost use Rattle.tree.proofs.NotesKnown.{Noted};
-ghost use Rattle.lowering.specs.Answer.{Result, highest_limit, limit_refused, after_reading, outcome_of, outcome};
-ghost use Rattle.rest_spread.specs.Entry.{lent_of, handed_back};
+ghost use Rattle.lowering.specs.Answer.{highest_limit, limit_refused, after_reading, outcome_of, outcome};
+ghost use Rattle.rest_spread.specs.Entry.{lent_of, handed_back, refused_with, Ends};
 
 use emit::node;
 use sink::bytes::low;
 use sink::ends;
 use tree::read;
-use tree::read::Answer;
 use walk::place::Place;
 use walk::walk::Walk;
 
@@ -32,13 +31,54 @@ pub struct Lowered {
     pub list_len: usize,
 }
 
+// Why a call is refused: its limit, its options, its work slice, its tree, the number that the walk met, or a result that is too long.
+#[derive(Clone, Copy)]
+enum Refusal {
+    Limit,
+    Options,
+    Work,
+    Tree(read::Refusal),
+    Walk(u8),
+    TooLong,
+}
+
+impl From<read::Refusal> for Refusal {
+    ghost use Rattle.std.specs.Prelude.{◌≡◌};
+    ghost use Rattle.rest_spread.specs.declared.Refusal.TheVariants as refused;
+
+    ghost from_gives = { λ e r. r ≡ refused.Tree e };
+
+    fn from(refusal: read::Refusal) -> Refusal {
+        Refusal::Tree(refusal)
+    }
+}
+
+// The number of a refusal.
+impl From<Refusal> for u8 {
+    ghost use Rattle.std.specs.Prelude.{◌≡◌};
+    ghost use Rattle.rest_spread.specs.Entry.{number_of};
+
+    ghost from_gives = { λ e n. n ≡ number_of e };
+
+    fn from(refusal: Refusal) -> u8 {
+        match refusal {
+            Refusal::Limit => 9,
+            Refusal::Options => 1,
+            Refusal::Work => 2,
+            Refusal::Tree(refusal) => u8::from(refusal),
+            Refusal::Walk(number) => number,
+            Refusal::TooLong => 7,
+        }
+    }
+}
+
 // A refusal: all that was lent is zero.
-fn refuse(answer: u8, out: &mut [u8], list: &mut [u8], work: &mut [u8]) -> Lowered
-    ensures { handed_back result out.new list.new work.new ≡ outcome_of (lent_of out.old list.old work.old) (Result.refusal answer) }
+fn refuse(refusal: Refusal, out: &mut [u8], list: &mut [u8], work: &mut [u8]) -> Lowered
+    ensures { handed_back result out.new list.new work.new ≡ refused_with (lent_of out.old list.old work.old) refusal }
 {
     ends::abandon(out, list, work);
     Lowered {
-        answer,
+        answer: u8::from(refusal),
         helpers: 0,
         options: 0,
         tree_len: 0,
@@ -56,8 +96,8 @@ fn lower(
     list: &mut [u8],
     work: &mut [u8],
     mark: usize,
-) -> Lowered
-    ensures { (l : List ℕ) (n : Node) (q : ℕ) → Bytes l → 65536 ≤ length work.old → read_tree input limit l ≡ got n q mark → Noted limit tree.now n q mark → handed_back result out.new list.new work.new ≡ outcome_of (lent_of out.old list.old work.old) (after_reading options (lent_of out.old list.old work.old) (got n q mark)) }
+) -> Result<Lowered, Refusal>
+    ensures { (l : List ℕ) (n : Node) (q : ℕ) → Bytes l → 65536 ≤ length work.old → read_tree input limit l ≡ got n q mark → Noted limit tree.now n q mark → Ends result out.new list.new work.new (lent_of out.old list.old work.old) (outcome_of (lent_of out.old list.old work.old) (after_reading options (lent_of out.old list.old work.old) (got n q mark))) }
 {
     let cells = work.len().min(32768);
     let k = ends::begin(out, list, &mut work[..cells], mark);
@@ -75,24 +115,18 @@ fn lower(
     let v = node(w, tree, out, list, work, c);
     let refusal = v.refusal;
     if 0 < refusal {
-        return refuse(low(refusal), out, list, work);
+        return Err(Refusal::Walk(low(refusal)));
     }
-    match v.sink.finish(out, list, work) {
-        Some(written) => Lowered {
-            answer: 0,
-            helpers: written.helpers,
-            options,
-            tree_len: written.tree,
-            list_len: written.list,
-        },
-        None => Lowered {
-            answer: 7,
-            helpers: 0,
-            options: 0,
-            tree_len: 0,
-            list_len: 0,
-        },
-    }
+    let Some(written) = v.sink.finish(out, list, work) else {
+        return Err(Refusal::TooLong);
+    };
+    Ok(Lowered {
+        answer: 0,
+        helpers: written.helpers,
+        options,
+        tree_len: written.tree,
+        list_len: written.list,
+    })
 }
 
 // The tree is read, noted in `room`, which is twice as long, and walked there.
@@ -104,13 +138,11 @@ fn read_and_lower(
     out: &mut [u8],
     list: &mut [u8],
     work: &mut [u8],
-) -> Lowered
-    ensures { length room.old ≡ length tree.now + length tree.now → 65536 ≤ length work.old → handed_back result out.new list.new work.new ≡ outcome_of (lent_of out.old list.old work.old) (after_reading options (lent_of out.old list.old work.old) (read_tree input limit tree.now)) }
+) -> Result<Lowered, Refusal>
+    ensures { length room.old ≡ length tree.now + length tree.now → 65536 ≤ length work.old → Ends result out.new list.new work.new (lent_of out.old list.old work.old) (outcome_of (lent_of out.old list.old work.old) (after_reading options (lent_of out.old list.old work.old) (read_tree input limit tree.now))) }
 {
-    match read::read_into(tree, room, limit) {
-        Answer::Refused(n) => refuse(n, out, list, work),
-        Answer::Read(_, mark) => lower(limit, options, room, out, list, work, mark),
-    }
+    let reading = read::read_into(tree, room, limit)?;
+    lower(limit, options, room, out, list, work, reading.mark)
 }
 
 // The highest limit, which is also that of a caller who names none (request 5).
@@ -122,8 +154,41 @@ fn limit_refused(limit: u32) -> bool
     limit == 0 || HIGHEST_LIMIT < limit
 }
 
-// The lowering of a tree of at most `depth` levels: document 01's first section with request 5's limit. Any bytes, any limit, any
-// options, slices of any lengths.
+// The same after the tests that need no reading. The slices are for the caller to clear on a refusal.
+fn attempt(
+    depth: u32,
+    options: u32,
+    tree: &[u8],
+    out: &mut [u8],
+    list: &mut [u8],
+    work: &mut [u8],
+) -> Result<Lowered, Refusal>
+    ensures { Ends result out.new list.new work.new (lent_of out.old list.old work.old) (outcome depth options tree.now (lent_of out.old list.old work.old)) }
+{
+    if limit_refused(depth) {
+        return Err(Refusal::Limit);
+    }
+    if 15 < options {
+        return Err(Refusal::Options);
+    }
+    if work.len() < 65536 {
+        return Err(Refusal::Work);
+    }
+    let limit = depth as usize;
+    let options = (options % 8) as u8;
+    let n = tree.len();
+    if 16384 < n {
+        return Err(Refusal::Tree(read::Refusal::NotATree));
+    }
+    if n <= 1024 {
+        let mut room = [0u8; 2048];
+        return read_and_lower(limit, options, tree, &mut room[..2 * n], out, list, work);
+    }
+    let mut room = [0u8; 32768];
+    read_and_lower(limit, options, tree, &mut room[..2 * n], out, list, work)
+}
+
+// The lowering of a tree of at most `depth` levels. Any bytes, any limit, any options, slices of any lengths.
 pub fn rest_spread_lower_within(
     depth: u32,
     options: u32,
@@ -134,43 +199,10 @@ pub fn rest_spread_lower_within(
 ) -> Lowered
     ensures { handed_back result tree_out.new list_out.new work.new ≡ outcome depth options tree.now (lent_of tree_out.old list_out.old work.old) }
 {
-    if limit_refused(depth) {
-        return refuse(9, tree_out, list_out, work);
+    match attempt(depth, options, tree, tree_out, list_out, work) {
+        Ok(lowered) => lowered,
+        Err(refusal) => refuse(refusal, tree_out, list_out, work),
     }
-    if 15 < options {
-        return refuse(1, tree_out, list_out, work);
-    }
-    if work.len() < 65536 {
-        return refuse(2, tree_out, list_out, work);
-    }
-    let limit = depth as usize;
-    let options = (options % 8) as u8;
-    let n = tree.len();
-    if 16384 < n {
-        return refuse(3, tree_out, list_out, work);
-    }
-    if n <= 1024 {
-        let mut room = [0u8; 2048];
-        return read_and_lower(
-            limit,
-            options,
-            tree,
-            &mut room[..2 * n],
-            tree_out,
-            list_out,
-            work,
-        );
-    }
-    let mut room = [0u8; 32768];
-    read_and_lower(
-        limit,
-        options,
-        tree,
-        &mut room[..2 * n],
-        tree_out,
-        list_out,
-        work,
-    )
 }
 
 // The same where no limit is named.

@@ -1,6 +1,7 @@
 -- The loop of `leftover`: a pass that keeps whether a rest was met.
 -- Assumes nothing.
 use mathlib.Core.Path.{◌≡◌, refl, sym, ap, ap₂, ◌∙◌}
+use mir.Val.{bool_byte}
 use mathlib.Core.Bool.{Bool, true, false, cond, ◌&&◌, ◌||◌, true≢false, or-false}
 use mathlib.Core.List.{List, [], ◌∷◌, ◌++◌}
 use Prim.Native.Nat.{ℕ, ◌+◌, ◌-◌, ◌*◌, ◌/◌, ◌%◌, ◌<◌, ◌≤◌}
@@ -99,11 +100,11 @@ pub rested_34 : (k m : ℕ) → k ≡ 34 → eqb (m / 2 % 2) 1 ≡ is_rested k m
 unfolding is_rested
 rested_34 k m e = rw e refl
 
-pub rested_other : (k m : ℕ) → (k ≡ 34 → ⊥) → false ≡ is_rested k m
+pub rested_other : (k m : ℕ) → (k ≡ 34 → ⊥) → eqb k 34 ≡ is_rested k m
 unfolding is_rested
 rested_other k m n = rw (ne_eqb k 34 n) refl
 
-pub met_before : (b : Bool) (e : Event) → b ≡ true → true ≡ meet_rest b e
+pub met_before : (b : Bool) (e : Event) → b ≡ true → b ≡ meet_rest b e
 unfolding meet_rest
 met_before b e h = rw h refl
 
@@ -148,10 +149,6 @@ module _ (l fs later : List ℕ) (c : Cursor) (met : Bool) (frames : ℕ) (v : B
 
 -- ---- the answer as a number
 
-pub told_one : (b : Bool) → true ≡ b → ◌≡◌ {A = ℕ} 1 (cond b 1 0)
-told_one true e = refl
-told_one false e = absurd (true≢false e)
-
-pub told_zero : (b : Bool) → false ≡ b → ◌≡◌ {A = ℕ} 0 (cond b 1 0)
-told_zero true e = absurd (true≢false (sym e))
-told_zero false e = refl
+pub told_byte : (b : Bool) → bool_byte b ≡ cond b 1 0
+told_byte true = refl
+told_byte false = refl

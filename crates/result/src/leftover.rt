@@ -10,7 +10,7 @@ use rewritten::step::{Event, Step};
 fn is_rested(kind: usize, map: usize) -> bool
     ensures { result ≡ is_rested kind map }
 {
-    if kind == 34 { map / 2 % 2 == 1 } else { false }
+    kind == 34 && map / 2 % 2 == 1
 }
 
 // What is met is one.
@@ -19,14 +19,7 @@ fn rest_met(e: Event) -> bool
 {
     match e {
         Event::Begins(_, kind, map) => is_rested(kind, map),
-        Event::Ends => false,
-        Event::Opens(_) => false,
-        Event::Closes => false,
-        Event::Hole => false,
-        Event::Text(_, _) => false,
-        Event::Byte(_) => false,
-        Event::Mark(_) => false,
-        Event::Number(_) => false,
+        _ => false,
     }
 }
 
@@ -34,17 +27,14 @@ fn rest_met(e: Event) -> bool
 fn meet(met: bool, e: Event) -> bool
     ensures { (tree : List ℕ) → result ≡ meet_rest met (event_in tree e) }
 {
-    if met { true } else { rest_met(e) }
+    met || rest_met(e)
 }
 
 // Right if 16,384 frames are lent.
 fn look(tree: &[u8], frames: &mut [usize]) -> bool
     ensures { 16384 ≤ length frames.old → result ≡ leftover tree.now }
 {
-    if 32768 < tree.len() {
-        return false;
-    }
-    if frames.len() < 16384 {
+    if 32768 < tree.len() || frames.len() < 16384 {
         return false;
     }
     let mut cursor = next::begin();
@@ -56,15 +46,9 @@ fn look(tree: &[u8], frames: &mut [usize]) -> bool
                 cursor = c;
             }
             Step::Done => {
-                if cursor.at == tree.len() {
-                    return met;
-                }
-                return false;
+                return cursor.at == tree.len() && met;
             }
-            Step::Refused => {
-                return false;
-            }
-            Step::Full => {
+            Step::Refused | Step::Full => {
                 return false;
             }
         }
@@ -75,6 +59,6 @@ fn look(tree: &[u8], frames: &mut [usize]) -> bool
 pub(crate) fn leftover(tree: &[u8]) -> bool
     ensures { result ≡ leftover tree.now }
 {
-    let mut frames: [usize; 16384] = [0; 16384];
+    let mut frames = [0; 16384];
     look(tree, &mut frames)
 }

@@ -10,8 +10,5 @@ ghost use Rattle.result.specs.Leftover.{leftover};
 pub fn rest_spread_leftover(tree: &[u8]) -> u8
     ensures { result ≡ cond (leftover tree.now) 1 0 }
 {
-    if leftover::leftover(tree) {
-        return 1;
-    }
-    0
+    leftover::leftover(tree) as u8
 }

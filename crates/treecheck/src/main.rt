@@ -2,26 +2,27 @@
 // the refusal. It names no limit.
 #![tactic(auto)]
 
-use tree::read::Answer;
+use tree::read;
+use tree::read::{Reading, Refusal};
 
-// Standard input and output.
+// Standard input and output. The io crate trusts read and write alone, and std's printing more of the C library.
 const STDIN_FILENO: i32 = 0;
 
 const STDOUT_FILENO: i32 = 1;
 
-// The limit where none is named (request 5).
+// The limit where none is named.
 const LIMIT: usize = 128;
 
-fn report(answer: Answer) {
-    match answer {
-        Answer::Read(end, mark) => {
+fn report(reading: Result<Reading, Refusal>) {
+    match reading {
+        Ok(Reading { end, mark }) => {
             io::write_all(STDOUT_FILENO, b"0 ");
             io::print_decimal(STDOUT_FILENO, end as u64);
             io::write_all(STDOUT_FILENO, b" ");
             io::print_decimal(STDOUT_FILENO, mark as u64);
         }
-        Answer::Refused(number) => {
-            io::print_decimal(STDOUT_FILENO, number as u64);
+        Err(refusal) => {
+            io::print_decimal(STDOUT_FILENO, u64::from(u8::from(refusal)));
         }
     }
     io::write_all(STDOUT_FILENO, b"\n");
@@ -31,5 +32,5 @@ fn report(answer: Answer) {
 fn main() {
     let mut space = io::large_buffer();
     let n = io::read_full(STDIN_FILENO, &mut space);
-    report(tree::read::read_tree(&space[..n], LIMIT));
+    report(read::read_tree(&space[..n], LIMIT));
 }

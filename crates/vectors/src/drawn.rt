@@ -1,7 +1,8 @@
 // A case of drawing is a seed and the state after its tree (32 bits each), the length of the tree (16 bits), all little-endian,
 // then the tree. It is drawn into slices as long as the tree, three bytes longer and a byte shorter, and every byte is looked at.
 use crate::STDIN_FILENO;
-use crate::tally::{Tally, say, wide};
+use crate::bytes::{holds, number16, number32};
+use crate::tally::{Tally, say};
 
 // What stands in front of a case's tree.
 #[derive(Clone, Copy)]
@@ -11,46 +12,18 @@ struct Head {
     length: usize,
 }
 
-// The bytes of `out` are those of `tree`, then zeros.
-fn same(tree: &[u8], out: &[u8]) -> bool {
-    let mut i = 0;
-    while i < out.len() {
-        if i < tree.len() {
-            if out[i] != tree[i] {
-                return false;
-            }
-        } else {
-            if out[i] != 0 {
-                return false;
-            }
-        }
-        i += 1;
-    }
-    true
-}
-
 // What the entry hands back: an answer, with the state and the tree that it should have.
 fn judged(answer: u8, next: u32, tree: &[u8], seed: u32, out: &mut [u8]) -> bool {
     let r = drawing::rest_spread_draw(seed, out);
-    if r.answer != answer {
-        return false;
-    }
-    if r.next != next {
-        return false;
-    }
-    if r.tree_len != tree.len() {
-        return false;
-    }
-    same(tree, out)
+    r.answer == answer && r.next == next && r.tree_len == tree.len() && holds(out, tree)
 }
 
 fn drawn(head: Head, tree: &[u8], out: &mut [u8]) -> bool {
-    let none = [0u8; 0];
     if head.seed == 0 {
-        return judged(8, 0, &none, head.seed, out);
+        return judged(8, 0, b"", head.seed, out);
     }
     if out.len() < tree.len() {
-        return judged(7, 0, &none, head.seed, out);
+        return judged(7, 0, b"", head.seed, out);
     }
     judged(0, head.next, tree, head.seed, out)
 }
@@ -66,29 +39,17 @@ fn within(head: Head, tree: &[u8], length: usize) -> bool {
 
 fn all_right(head: Head, tree: &[u8]) -> bool {
     let n = tree.len();
-    if 8000 < n {
-        return false;
-    }
-    if 0 < n {
-        if !within(head, tree, n - 1) {
-            return false;
-        }
-    }
-    if !within(head, tree, n + 3) {
-        return false;
-    }
-    within(head, tree, n)
-}
-
-fn number(a: u8, b: u8, c: u8, d: u8) -> u32 {
-    a as u32 + 256 * (b as u32) + 65536 * (c as u32) + 16777216 * (d as u32)
+    n <= 8000
+        && (n == 0 || within(head, tree, n - 1))
+        && within(head, tree, n + 3)
+        && within(head, tree, n)
 }
 
 fn head_of(bytes: &[u8; 10]) -> Head {
     Head {
-        seed: number(bytes[0], bytes[1], bytes[2], bytes[3]),
-        next: number(bytes[4], bytes[5], bytes[6], bytes[7]),
-        length: wide(bytes[8], bytes[9]),
+        seed: number32(bytes[0], bytes[1], bytes[2], bytes[3]),
+        next: number32(bytes[4], bytes[5], bytes[6], bytes[7]),
+        length: number16(bytes[8], bytes[9]),
     }
 }
 

@@ -3,8 +3,8 @@
 // long as its result and a byte shorter, too; one that is refused for another reason than room, into no slice at all. Every byte is
 // looked at.
 use crate::STDIN_FILENO;
-use crate::rewriting::holds;
-use crate::tally::{Tally, say, wide};
+use crate::bytes::{holds, number16};
+use crate::tally::{Tally, say};
 
 // What stands in front of a case's tree, list and joined tree.
 #[derive(Clone, Copy)]
@@ -33,22 +33,21 @@ fn within(answer: u8, want: &[u8], tree: &[u8], list: &[u8], length: usize) -> b
 
 fn all_right(head: Head, want: &[u8], tree: &[u8], list: &[u8]) -> bool {
     let n = want.len();
-    if !within(head.answer, want, tree, list, head.slice) {
-        return false;
-    }
-    if 0 < n {
-        return within(0, want, tree, list, n) && within(7, b"", tree, list, n - 1);
-    }
-    head.answer == 7 || within(head.answer, b"", tree, list, 0)
+    within(head.answer, want, tree, list, head.slice)
+        && if 0 < n {
+            within(0, want, tree, list, n) && within(7, b"", tree, list, n - 1)
+        } else {
+            head.answer == 7 || within(head.answer, b"", tree, list, 0)
+        }
 }
 
 fn head_of(bytes: &[u8; 9]) -> Head {
     Head {
         answer: bytes[0],
-        slice: wide(bytes[1], bytes[2]),
-        tree: wide(bytes[3], bytes[4]),
-        list: wide(bytes[5], bytes[6]),
-        result: wide(bytes[7], bytes[8]),
+        slice: number16(bytes[1], bytes[2]),
+        tree: number16(bytes[3], bytes[4]),
+        list: number16(bytes[5], bytes[6]),
+        result: number16(bytes[7], bytes[8]),
     }
 }
 

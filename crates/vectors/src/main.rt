@@ -4,6 +4,7 @@
 // there were, then the number of cases and of disagreements.
 #![tactic(auto)]
 
+mod bytes;
 mod drawn;
 mod joined;
 mod reading;
@@ -34,13 +35,14 @@ fn next_case(t: Tally) -> Tally {
     }
 }
 
-// Nothing says that the input ends, so the loop counts its turns down, from a number that no run uses up.
+// Nothing says that the input ends, so the loop has a number of turns that no run uses up.
 fn replayed() -> Tally {
     let mut t = Tally::none();
-    let mut turns = u64::MAX;
-    while turns > 0 && t.more {
+    for _ in 0..u64::MAX {
+        if !t.more {
+            break;
+        }
         t = next_case(t);
-        turns -= 1;
     }
     t
 }

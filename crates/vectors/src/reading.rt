@@ -1,8 +1,9 @@
 // A case of reading is the depth limit and the expected answer (a byte each; the answer is 0, 3 or 4), the length of its tree
 // and the expected next mark (16 bits each, little-endian; the mark is 0 on a refusal), then the tree.
 use crate::STDIN_FILENO;
-use crate::tally::{Tally, say, say_number, wide};
-use tree::read::Answer;
+use crate::bytes::number16;
+use crate::tally::{Tally, say, say_number};
+use tree::read::{Reading, Refusal};
 
 // What stands in front of a case's tree.
 #[derive(Clone, Copy)]
@@ -31,22 +32,22 @@ fn say_answer(answer: u8, end: usize, mark: usize) {
 
 fn head_of(bytes: &[u8; 6]) -> Head {
     Head {
-        limit: wide(bytes[0], 0),
+        limit: bytes[0] as usize,
         answer: bytes[1],
-        length: wide(bytes[2], bytes[3]),
-        mark: wide(bytes[4], bytes[5]),
+        length: number16(bytes[2], bytes[3]),
+        mark: number16(bytes[4], bytes[5]),
     }
 }
 
-fn found_of(answer: Answer) -> Found {
-    match answer {
-        Answer::Read(end, mark) => Found {
+fn found_of(reading: Result<Reading, Refusal>) -> Found {
+    match reading {
+        Ok(Reading { end, mark }) => Found {
             answer: 0,
-            end: end,
-            mark: mark,
+            end,
+            mark,
         },
-        Answer::Refused(number) => Found {
-            answer: number,
+        Err(refusal) => Found {
+            answer: u8::from(refusal),
             end: 0,
             mark: 0,
         },

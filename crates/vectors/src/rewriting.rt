@@ -4,20 +4,14 @@
 // one that takes a limit, or the one that takes none. It is called on slices with bytes to spare and on ones that are as long
 // as what they have to hold, or a byte shorter. Before a call no byte of them is 0; after it every byte is compared.
 use crate::STDIN_FILENO;
-use crate::tally::{Tally, say, say_number, wide};
+use crate::bytes::{holds, number16, number32};
+use crate::tally::{Tally, say, say_number};
 use rest_spread::Lowered;
-
-// The limit of a case; its number is 0 where none is named.
-#[derive(Clone, Copy)]
-struct Limit {
-    named: bool,
-    number: u32,
-}
 
 // What stands in front of a case's tree, expected tree and expected list.
 #[derive(Clone, Copy)]
 struct Head {
-    limit: Limit,
+    limit: Option<u32>,
     options: u8,
     answer: u8,
     helpers: u8,
@@ -30,7 +24,7 @@ struct Head {
 // One call: limit, options and the lengths of the slices that are lent, and what it has to return beside lengths.
 #[derive(Clone, Copy)]
 struct Call {
-    limit: Limit,
+    limit: Option<u32>,
     options: u8,
     tree: usize,
     list: usize,
@@ -40,20 +34,16 @@ struct Call {
     mask: u8,
 }
 
-fn number(a: u8, b: u8, c: u8, d: u8) -> u32 {
-    a as u32 + 256 * (b as u32) + 65536 * (c as u32) + 16777216 * (d as u32)
-}
-
-fn head_of(limit: Limit, bytes: &[u8; 10]) -> Head {
+fn head_of(limit: Option<u32>, bytes: &[u8; 10]) -> Head {
     Head {
-        limit: limit,
+        limit,
         options: bytes[0],
         answer: bytes[1],
         helpers: bytes[2],
         mask: bytes[3],
-        tree: wide(bytes[4], bytes[5]),
-        result: wide(bytes[6], bytes[7]),
-        list: wide(bytes[8], bytes[9]),
+        tree: number16(bytes[4], bytes[5]),
+        result: number16(bytes[6], bytes[7]),
+        list: number16(bytes[8], bytes[9]),
     }
 }
 
@@ -67,19 +57,6 @@ fn say_answer(answer: u8, helpers: u8, mask: u8, tree: usize, list: usize) {
     say_number(tree as u64);
     say(b" ");
     say_number(list as u64);
-}
-
-// Whether the bytes are those of `start`, then zeros.
-pub(crate) fn holds(bytes: &[u8], start: &[u8]) -> bool {
-    let mut i = 0;
-    while i < bytes.len() {
-        let want = if i < start.len() { start[i] } else { 0 };
-        if bytes[i] != want {
-            return false;
-        }
-        i += 1;
-    }
-    start.len() <= bytes.len()
 }
 
 // Whether a call returned what it has to, with these lengths.
@@ -129,12 +106,11 @@ fn compared(
 
 // The entry of a case: the one that takes a limit, if it names one.
 fn entered(call: Call, tree: &[u8], out: &mut [u8], list: &mut [u8], work: &mut [u8]) -> Lowered {
-    let limit = call.limit;
     let options = call.options as u32;
-    if limit.named {
-        return rest_spread::rest_spread_lower_within(limit.number, options, tree, out, list, work);
+    match call.limit {
+        Some(limit) => rest_spread::rest_spread_lower_within(limit, options, tree, out, list, work),
+        None => rest_spread::rest_spread_lower(options, tree, out, list, work),
     }
-    rest_spread::rest_spread_lower(options, tree, out, list, work)
 }
 
 // The call, on slices that are lent whole.
@@ -196,9 +172,8 @@ fn tried(t: Tally, name: &[u8], call: Call, tree: &[u8], res: &[u8], listed: &[u
 
 // Slices with bytes to spare.
 fn spare(head: Head) -> Call {
-    let limit = head.limit;
     Call {
-        limit: limit,
+        limit: head.limit,
         options: head.options,
         tree: 33000,
         list: 17000,
@@ -211,44 +186,33 @@ fn spare(head: Head) -> Call {
 
 // Slices just long enough.
 fn exact(head: Head) -> Call {
-    let limit = head.limit;
     Call {
-        limit: limit,
-        options: head.options,
         tree: head.result,
         list: head.list,
         work: 65536,
-        answer: head.answer,
-        helpers: head.helpers,
-        mask: head.mask,
+        ..spare(head)
     }
 }
 
 // Slices that are too short.
 fn short(head: Head, tree: usize, list: usize, work: usize, answer: u8) -> Call {
-    let limit = head.limit;
     Call {
-        limit: limit,
-        options: head.options,
-        tree: tree,
-        list: list,
-        work: work,
-        answer: answer,
+        tree,
+        list,
+        work,
+        answer,
         helpers: 0,
         mask: 0,
+        ..spare(head)
     }
-}
-
-fn one_less(n: usize) -> usize {
-    if n > 0 { n - 1 } else { 0 }
 }
 
 // A tree that is lowered: slices as long as tree and list, and the one or the other a byte shorter.
 fn narrow(t: Tally, head: Head, tree: &[u8], res: &[u8], listed: &[u8]) -> Tally {
     let a = head.result;
     let b = head.list;
-    let tree_short = short(head, one_less(a), b, 65536, 7);
-    let list_short = short(head, a, one_less(b), 65536, 7);
+    let tree_short = short(head, a.saturating_sub(1), b, 65536, 7);
+    let list_short = short(head, a, b.saturating_sub(1), 65536, 7);
     let t = tried(t, b": just long enough", exact(head), tree, res, listed);
     let t = tried(t, b": tree slice too short", tree_short, tree, b"", b"");
     tried(t, b": list slice too short", list_short, tree, b"", b"")
@@ -256,11 +220,11 @@ fn narrow(t: Tally, head: Head, tree: &[u8], res: &[u8], listed: &[u8]) -> Tally
 
 // What a case is answered with where the work slice is too short: 9 and 1 come before 2.
 fn without_work(head: Head) -> u8 {
-    let limit = head.limit;
-    if limit.named && (limit.number == 0 || 128 < limit.number) {
-        return 9;
+    match head.limit {
+        Some(limit) if limit == 0 || 128 < limit => 9,
+        _ if 15 < head.options => 1,
+        _ => 2,
     }
-    if 15 < head.options { 1 } else { 2 }
 }
 
 // What comes of a case.
@@ -297,7 +261,7 @@ fn placed(t: Tally, head: Head, tree: &mut [u8], res: &mut [u8], listed: &mut [u
     filled(t, head, &mut tree[..a], &mut res[..b], &mut listed[..c])
 }
 
-fn limited(t: Tally, limit: Limit) -> Tally {
+fn limited(t: Tally, limit: Option<u32>) -> Tally {
     let mut bytes = [0u8; 10];
     let n = io::read_full(STDIN_FILENO, &mut bytes);
     if n < 10 {
@@ -316,13 +280,7 @@ fn limited(t: Tally, limit: Limit) -> Tally {
 }
 
 pub(crate) fn case(t: Tally) -> Tally {
-    limited(
-        t,
-        Limit {
-            named: false,
-            number: 0,
-        },
-    )
+    limited(t, None)
 }
 
 pub(crate) fn case_within(t: Tally) -> Tally {
@@ -331,11 +289,6 @@ pub(crate) fn case_within(t: Tally) -> Tally {
     if n < 4 {
         return t.broken(b": the input ends in it\n");
     }
-    limited(
-        t,
-        Limit {
-            named: true,
-            number: number(bytes[0], bytes[1], bytes[2], bytes[3]),
-        },
-    )
+    let limit = number32(bytes[0], bytes[1], bytes[2], bytes[3]);
+    limited(t, Some(limit))
 }

@@ -27,7 +27,7 @@ pub(crate) fn say_number(n: u64) {
 }
 
 fn one_more(n: u64) -> u64 {
-    std::num::wrapping_add_u64(n, 1)
+    n.wrapping_add(1)
 }
 
 impl Tally {
@@ -76,15 +76,9 @@ impl Tally {
     // An answer of the reader.
     pub(crate) fn read(mut self, answer: u8) -> Tally {
         match answer {
-            0 => {
-                self.accepted = one_more(self.accepted);
-            }
-            3 => {
-                self.threes = one_more(self.threes);
-            }
-            4 => {
-                self.fours = one_more(self.fours);
-            }
+            0 => self.accepted = one_more(self.accepted),
+            3 => self.threes = one_more(self.threes),
+            4 => self.fours = one_more(self.fours),
             _ => {}
         }
         self
@@ -145,8 +139,4 @@ impl Tally {
         say_number(self.wrong);
         say(b" wrong\n");
     }
-}
-
-pub(crate) fn wide(low: u8, high: u8) -> usize {
-    low as usize + 256 * (high as usize)
 }

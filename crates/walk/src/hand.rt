@@ -285,6 +285,7 @@ fn each_key(
     )
 }
 
+// A loop of its own: one loop for these and for declarators, told by an enum, makes fifteen functions one cycle of calls.
 fn keys_in(
     w: Walk,
     t: &[u8],

@@ -1,10 +1,9 @@
 -- `counting::rest_spread_calls` meets its contract.
-use native.Mathlib.Omega.{arith}
 use Rattle.counting.proofs.Figures.{refused, answered}
 use Rattle.counting.proofs.rest_spread_calls.Goals as goal
 
-pub returns-then-n-gt-LONGEST : goal.returns-then-n-gt-LONGEST
-returns-then-n-gt-LONGEST c = refused _ _ (omega arith)
+pub returns-in-Ok : goal.returns-in-Ok
+returns-in-Ok c = answered _ _ _ c.in-Ok.ensures.ok.0 c.in-Ok.ensures.ok.1
 
-pub returns : goal.returns
-returns c = answered _ _ _ (omega arith) c.figured-number.ensures
+pub returns-in-Err : goal.returns-in-Err
+returns-in-Err c = rw c.in-Err.ensures.err.1 (refused _ _ c.in-Err.ensures.err.0)

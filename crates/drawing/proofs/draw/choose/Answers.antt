@@ -9,4 +9,4 @@ pub returns-then-ended : goal.returns-then-ended
 returns-then-ended c = law.choose_shortest _ _ _ _ _ _ c.count-n.ensures c.if-n-lt2.false (sym c.if-ended.true ∙ c.ended.ensures) c.shortest_kind-kind.ensures
 
 pub returns : goal.returns
-returns c = law.choose_drawn _ _ _ _ _ _ c.count-n.ensures _ c.if-n-lt2.false (sym c.if-ended.false ∙ c.ended.ensures) c.advanced-x.ensures c.kind-kind-2.ensures
+returns c = law.choose_drawn _ _ _ _ _ _ c.count-n.ensures _ c.if-n-lt2.false (sym c.if-ended.false ∙ c.ended.ensures) c.advanced-state.ensures c.kind-kind-2.ensures

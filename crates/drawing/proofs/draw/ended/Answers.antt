@@ -7,6 +7,6 @@ pub returns-then-left-le1 : goal.returns-then-left-le1
 unfolding ends
 returns-then-left-le1 c = rw (le-leb c.args.left 1 (omega arith))
 
-pub returns : goal.returns
+pub returns-else-left-le1 : goal.returns-else-left-le1
 unfolding ends
-returns c = rw (lt-leb c.args.left 1 (omega arith))
+returns-else-left-le1 c = rw (lt-leb c.args.left 1 (omega arith))

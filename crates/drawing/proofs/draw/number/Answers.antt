@@ -2,4 +2,4 @@ use Rattle.drawing.proofs.DrawingWritten as law
 use Rattle.drawing.proofs.draw.number.Goals as goal
 
 pub returns : goal.returns
-returns c = law.number_drawn _ _ _ _ _ _ _ _ c.advanced-x.ensures c.put_wide-end.ensures
+returns c = law.number_drawn _ _ _ _ _ _ _ _ c.advanced-state.ensures c.put_wide-at.ensures

@@ -9,4 +9,4 @@ pub returns-then-ended : goal.returns-then-ended
 returns-then-ended c = law.settle_cut _ _ _ _ c.if-digit-eq0.false (sym c.if-ended.true ∙ c.ended.ensures)
 
 pub returns : goal.returns
-returns c = law.settle_drawn _ _ _ _ _ c.if-digit-eq0.false (sym c.if-ended.false ∙ c.ended.ensures) c.advanced-x.ensures
+returns c = law.settle_drawn _ _ _ _ _ c.if-digit-eq0.false (sym c.if-ended.false ∙ c.ended.ensures) c.advanced-state.ensures

@@ -1,9 +1,8 @@
-use Rattle.drawing.proofs.KindTables.{least, least_at, no_shortest}
+use Rattle.std.proofs.Common.{rules}
+use Rattle.std.proofs.lemmas.Option.{unwrap_or-slice_get}
+use Rattle.drawing.proofs.KindTables.{least, least_at}
 use Rattle.drawing.proofs.kinds.shortest_kind.Goals as goal
 
-pub returns-then-place-lt26 : goal.returns-then-place-lt26
-unfolding least
-returns-then-place-lt26 c = least_at _ c.if-place-lt26.true
-
 pub returns : goal.returns
-returns c = no_shortest _ c.if-place-lt26.false
+unfolding least
+returns c = search (rules, least_at, unwrap_or-slice_get)

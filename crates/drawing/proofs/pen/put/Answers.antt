@@ -7,5 +7,5 @@ returns-then-at-out c = law.put_in c.args.out.now c.args.at c.args.b c.if-at-out
 pub returns-then-at-out-2 : goal.returns-then-at-out-2
 returns-then-at-out-2 c = law.put_end c.args.out.now c.args.at c.args.b c.if-at-out-2.true
 
-pub returns : goal.returns
-returns c = law.put_over c.args.out.now c.args.at c.args.b c.if-at-out.false c.if-at-out-2.false
+pub returns-else-at-out-2 : goal.returns-else-at-out-2
+returns-else-at-out-2 c = law.put_over c.args.out.now c.args.at c.args.b c.if-at-out.false c.if-at-out-2.false

@@ -1,15 +1,13 @@
-use Rattle.std.proofs.Common.{◌≡◌, ◌+◌, ◌*◌, length}
+use Rattle.std.proofs.Common.{◌≡◌, ◌+◌, ◌-◌, ◌*◌, length}
 use Rattle.tree.specs.Rows.{fields_in_of}
 use Rattle.drawing.specs.Draw.{draw_node, draw_items}
 use Rattle.drawing.specs.Pen.{drew_items}
-use Rattle.drawing.proofs.draw.+fields_items_node_slot.Given as goal
+use Rattle.drawing.proofs.draw.+drawing.Given as goal
 
-abbrev pub invariant-items-loop-n : goal.invariant-items-loop-n
-invariant-items-loop-n l = (drew_items l.out l.h.at (draw_items (draw_node l.left l.place) l.n l.h.state l.h.more l.h.mark) ≡ drew_items l.initial.out l.initial.h.at (draw_items (draw_node l.left l.place) l.initial.n l.initial.h.state l.initial.h.more l.initial.h.mark))
+-- as many nodes are still to be drawn as the turns leave
+abbrev pub invariant-items-loop : goal.invariant-items-loop
+invariant-items-loop l = (drew_items l.out l.h.at (draw_items (draw_node l.left l.place) (l.n - l.counter) l.h.state l.h.more l.h.mark) ≡ drew_items l.initial.out l.initial.h.at (draw_items (draw_node l.left l.place) l.n l.initial.h.state l.initial.h.more l.initial.h.mark))
     × (l.h.value ≡ 0) × (length l.out ≡ length l.initial.out)
-
-abbrev pub decreases-items-loop-n : goal.decreases-items-loop-n
-decreases-items-loop-n l = l.n
 
 abbrev pub decreases-fields : goal.decreases-fields
 decreases-fields l = 16 * l.left + (4 + length (fields_in_of l.row))

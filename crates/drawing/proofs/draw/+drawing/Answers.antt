@@ -1,7 +1,7 @@
-use Rattle.std.proofs.Common.{◌-◌, sym, refl, ◌∙◌, arith}
+use Rattle.std.proofs.Common.{◌≡◌, ◌-◌, ◌%◌, ◌<◌, ◌≤◌, sym, refl, ◌∙◌, arith}
 use Rattle.drawing.specs.Draw.{draw_field}
 use Rattle.drawing.proofs.DrawingWaysOut as law
-use Rattle.drawing.proofs.draw.+fields_items_node_slot.Goals as goal
+use Rattle.drawing.proofs.draw.+drawing.Goals as goal
 
 pub fields-fields-i-requires : goal.fields-fields-i-requires
 fields-fields-i-requires t c = (omega (arith, c.decreases, law.fields_fall c.args.row c.if-row-eq0.false), tt)
@@ -22,22 +22,26 @@ pub fields-returns : goal.fields-returns
 fields-returns t c = law.fields_skip _ _ _ _ _ _ _ _ _ _ c.if-row-eq0.false _ _ (sym c.if-t.false ∙ c.settle-t.ensures.0) c.settle-t.ensures.1 c.fields-i-2.ensures
 
 pub items-returns-then-ended : goal.items-returns-then-ended
-items-returns-then-ended t c = law.list_cut _ _ _ _ _ _ _ _ _ (sym c.if-ended.true ∙ c.ended.ensures) c.put_wide-end.ensures
+items-returns-then-ended t c = law.list_cut _ _ _ _ _ _ _ _ _ (sym c.if-ended.true ∙ c.ended.ensures) c.put_wide-at.ensures
 
-pub items-loop-n-init : goal.items-loop-n-init
-items-loop-n-init t c = (refl, refl, refl)
+pub items-loop-init : goal.items-loop-init
+items-loop-init t c = let e : c.advanced-state.result % 4 - 0 ≡ c.advanced-state.result % 4 = omega arith in rw e (refl, refl, refl)
 
-pub items-loop-n-preserved : goal.items-loop-n-preserved
-items-loop-n-preserved t c = (law.items_again _ _ _ _ _ c.loop-n.h _ c.loop-n-test.true refl c.node-h.ensures ∙ c.loop-n.invariant.0, law.node_silent _ _ _ _ _ c.node-h.ensures, c.node-h.auto.out ∙ c.loop-n.invariant.2)
+pub items-loop-preserved : goal.items-loop-preserved
+items-loop-preserved t c =
+    let z : 0 < c.advanced-state.result % 4 - c.loop.counter = omega arith in
+    (law.items_again _ _ _ _ _ c.loop.h _ z (omega arith) c.node-h.ensures ∙ c.loop.invariant.0, law.node_silent _ _ _ _ _ c.node-h.ensures, c.node-h.auto.out ∙ c.loop.invariant.2)
 
 pub items-returns : goal.items-returns
-items-returns t c = law.list_drawn _ _ _ _ _ _ _ _ _ _ _ _ _ (sym c.if-ended.false ∙ c.ended.ensures) c.advanced-x.ensures refl c.put_wide-end-2.ensures (law.items_end _ _ _ _ c.loop-n-test.false c.loop-n.invariant.1 ∙ c.loop-n.invariant.0)
+items-returns t c =
+    let z : c.advanced-state.result % 4 - c.loop.counter ≤ 0 = omega arith in
+    law.list_drawn _ _ _ _ _ _ _ _ _ _ _ _ _ (sym c.if-ended.false ∙ c.ended.ensures) c.advanced-state.ensures refl c.put_wide-at-2.ensures (law.items_end _ _ _ _ z c.loop.invariant.1 ∙ c.loop.invariant.0)
 
 pub node-returns-then-left-eq0 : goal.node-returns-then-left-eq0
-node-returns-then-left-eq0 t c = law.node_none _ _ _ _ _ _ _ _ _ c.if-left-eq0.true c.put_wide-end.ensures
+node-returns-then-left-eq0 t c = law.node_none _ _ _ _ _ _ _ _ _ c.if-left-eq0.true c.put_wide-at.ensures
 
 pub node-returns : goal.node-returns
-node-returns t c = law.node_drawn c.args.left (c.args.left - 1) _ _ _ _ _ _ _ _ _ _ _ _ _ _ _ _ _ _ _ (omega (arith, c.if-left-eq0.false)) c.choose-c.ensures c.form_at-form.ensures c.row-row.ensures c.fewer-more.ensures c.put-map.ensures c.put-at.ensures c.fields-h.ensures c.put.ensures
+node-returns t c = law.node_drawn c.args.left (c.args.left - 1) _ _ _ _ _ _ _ _ _ _ _ _ _ _ _ _ _ _ _ (omega (arith, c.if-left-eq0.false)) c.choose-c.ensures c.form_at-form.ensures c.row-row.ensures c.saturating_sub.ensures c.put-map.ensures c.put-at.ensures c.fields-h.ensures c.put.ensures
 
 pub slot-returns-in-1 : goal.slot-returns-in-1
 slot-returns-in-1 t c = law.slot_node _ _ _ _ _ _ _ _ _ _ c.in-1.is c.node.ensures
