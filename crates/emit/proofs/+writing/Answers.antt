@@ -32,9 +32,9 @@ use Rattle.emit.proofs.Finding as finding
 use Rattle.emit.proofs.Refusing.{refused_by, refused_none, refused_past}
 use Rattle.emit.proofs.Declaring as declaring
 use Rattle.pattern.proofs.SourceReads as reading
-use Rattle.pattern.specs.Source.{read_of}
+use Rattle.pattern.specs.Source.{read_of, after_read}
 use Rattle.emit.proofs.+writing.Goals as goal
-use Rattle.emit.proofs.+writing.Goals.{catch_clause-else-has_first, catch_clause-then-has_first+else-is_moved, property-else-is_spread, property-then-is_spread+else-has_first, assignment_to-else-peek-eq-OBJECT_PATTERN, assignment_to-then-peek-eq-OBJECT_PATTERN+else-has_second, function-else-any_moved, function-then-any_moved+else-stands, item-else-holes, item-then-holes+else-peek-eq0, key-else-taken, key-then-taken+else-is_other, turn-else-holes, turn-then-holes+else-peek-eq0, view_object-else-rest, view_object-then-rest+else-replaces}
+use Rattle.emit.proofs.+writing.Goals.{catch_clause-else-has_first-via-else-has_first, catch_clause-else-has_first-via-then-has_first+else-is_moved, property-else-is_spread-via-else-is_spread, property-else-is_spread-via-then-is_spread+else-has_first, assignment_to-else-peek-eq-OBJECT_PATTERN-via-else-peek-eq-OBJECT_PATTERN, assignment_to-else-peek-eq-OBJECT_PATTERN-via-then-peek-eq-OBJECT_PATTERN+else-has_second, function-else-any_moved-via-else-any_moved, function-else-any_moved-via-then-any_moved+else-stands, item-else-holes-via-else-holes, item-else-holes-via-then-holes+else-peek-eq0, key-else-taken-via-else-taken, key-else-taken-via-then-taken+else-is_other, turn-else-holes-via-else-holes, turn-else-holes-via-then-holes+else-peek-eq0, view_object-else-rest-via-else-rest, view_object-else-rest-via-then-rest+else-replaces}
 
 -- where the walk stands, the builder that is handed back, and what is done
 with-next : {A N B : Type 0} → A × B → N → A × N × B
@@ -65,7 +65,7 @@ pub assignment_to-returns-then-has_second : goal.assignment_to-returns-then-has_
 assignment_to-returns-then-has_second t c = assigning.asn_top _ _ _ _ _ _ _ _ _ c.peek.ensures c.if-peek-eq-OBJECT_PATTERN.true c.has_second.ensures c.if-has_second.true c.top.ensures
 
 pub assignment_to-returns : goal.assignment_to-returns
-assignment_to-returns t c = (elim c.if-peek-eq-OBJECT_PATTERN.branch [ assignment_to-then-peek-eq-OBJECT_PATTERN+else-has_second w ↦ assigning.asn_plain _ _ _ _ _ _ _ _ _ c.peek.ensures w.if-peek-eq-OBJECT_PATTERN.true w.has_second.ensures w.if-has_second.false c.nested.ensures | assignment_to-else-peek-eq-OBJECT_PATTERN w ↦ assigning.asn_other _ _ _ _ _ _ _ _ c.peek.ensures w.if-peek-eq-OBJECT_PATTERN.false c.nested.ensures ])
+assignment_to-returns t c = (elim c.else-peek-eq-OBJECT_PATTERN.branch [ assignment_to-else-peek-eq-OBJECT_PATTERN-via-then-peek-eq-OBJECT_PATTERN+else-has_second w ↦ assigning.asn_plain _ _ _ _ _ _ _ _ _ c.peek.ensures w.if-peek-eq-OBJECT_PATTERN.true w.has_second.ensures w.if-has_second.false c.nested.ensures | assignment_to-else-peek-eq-OBJECT_PATTERN-via-else-peek-eq-OBJECT_PATTERN w ↦ assigning.asn_other _ _ _ _ _ _ _ _ c.peek.ensures w.if-peek-eq-OBJECT_PATTERN.false c.nested.ensures ])
 
 pub arrow-turns-u-requires : goal.arrow-turns-u-requires
 arrow-turns-u-requires t c = let z : 0 < c.args.c.left = moving.moved_levels _ _ _ _ _ c.any_moved.ensures c.if-any_moved.true in
@@ -151,7 +151,7 @@ pub catch_clause-returns-then-is_moved : goal.catch_clause-returns-then-is_moved
 catch_clause-returns-then-is_moved t c = looping.catch_moves _ _ _ _ _ _ _ _ _ _ _ _ _ _ _ _ c.less-left.ensures c.step-q.ensures c.has_first.ensures c.if-has_first.true c.is_moved.ensures c.if-is_moved.true c.scoped-d.ensures.0 c.scoped-d.ensures.1 c.moves_make.ensures.0 c.copy-u.ensures.1 c.skip.ensures c.to.ensures.1 (c.to.ensures.0 _ _ _) (c.moves_make.ensures.1 _ _) (runs_does (c.copy-u.ensures.0 _ _)) (told.items_own _ _ _ _ _ _ _ _ _ _ _ told.untold_binding c.turns-u.ensures) c.block_body.ensures
 
 pub catch_clause-returns : goal.catch_clause-returns
-catch_clause-returns t c = (elim c.if-has_first.branch [ catch_clause-then-has_first+else-is_moved w ↦ looping.catch_keeps _ _ _ _ _ _ _ _ _ c.less-left.ensures c.step-q.ensures w.has_first.ensures w.if-has_first.true w.is_moved.ensures w.if-is_moved.false c.plain.ensures | catch_clause-else-has_first w ↦ looping.catch_stays _ _ _ _ _ _ c.has_first.ensures w.if-has_first.false c.plain.ensures ])
+catch_clause-returns t c = (elim c.else-has_first.branch [ catch_clause-else-has_first-via-then-has_first+else-is_moved w ↦ looping.catch_keeps _ _ _ _ _ _ _ _ _ c.less-left.ensures c.step-q.ensures w.has_first.ensures w.if-has_first.true w.is_moved.ensures w.if-is_moved.false c.plain.ensures | catch_clause-else-has_first-via-else-has_first w ↦ looping.catch_stays _ _ _ _ _ _ c.has_first.ensures w.if-has_first.false c.plain.ensures ])
 
 pub deep_array-returns-then-c-eq0 : goal.deep_array-returns-then-c-eq0
 deep_array-returns-then-c-eq0 t c = λ k good suit. good_none _ _ _ c.if-c-eq0.true good
@@ -288,7 +288,7 @@ pub function-returns-then-stands : goal.function-returns-then-stands
 function-returns-then-stands t c = bodying.function_moved _ _ _ _ _ _ _ _ _ _ _ _ _ _ _ _ _ _ _ _ _ _ _ _ c.any_moved.ensures c.if-any_moved.true c.stands.ensures c.if-stands.true c.less-left.ensures c.scoped-d.ensures.0 c.scoped-d.ensures.1 c.step-q.ensures c.step.ensures c.peek-bits.ensures c.skip_slot-s.ensures c.wide_at-n.ensures c.step-first.ensures c.moves_make.ensures.0 (c.moves_make.ensures.1 _ _) c.copy-u.ensures.1 (runs_does (c.copy-u.ensures.0 _ _)) c.slot.ensures c.copy-u-then-stands.ensures.1 (runs_does (c.copy-u-then-stands.ensures.0 _ _)) (told.items_own _ _ _ _ _ _ _ _ _ _ _ told.untold_binding c.turns-u.ensures) c.slot-u.ensures c.function_body.ensures (c.to.ensures.0 _ _ _) c.skip.ensures c.to.ensures.1
 
 pub function-returns : goal.function-returns
-function-returns t c = bodying.function_plain _ _ _ _ _ (elim c.if-any_moved.branch [ function-then-any_moved+else-stands w ↦ bodying.bodiless _ _ _ _ w.stands.ensures w.if-stands.false | function-else-any_moved w ↦ bodying.unmoved _ _ _ _ c.any_moved.ensures w.if-any_moved.false ]) c.plain.ensures
+function-returns t c = bodying.function_plain _ _ _ _ _ (elim c.else-any_moved.branch [ function-else-any_moved-via-then-any_moved+else-stands w ↦ bodying.bodiless _ _ _ _ w.stands.ensures w.if-stands.false | function-else-any_moved-via-else-any_moved w ↦ bodying.unmoved _ _ _ _ c.any_moved.ensures w.if-any_moved.false ]) c.plain.ensures
 
 pub moved_out-returns-then-c-eq0 : goal.moved_out-returns-then-c-eq0
 moved_out-returns-then-c-eq0 t c = λ good. law.good_none _ _ _ c.if-c-eq0.true good
@@ -333,11 +333,11 @@ pub item-returns-then-peek-eq0 : goal.item-returns-then-peek-eq0
 item-returns-then-peek-eq0 t c = (c.copy.ensures.1 ∙ c.step.ensures ∙ skipping.item_hole _ _ _ _ _ c.if-holes.true c.peek.ensures c.if-peek-eq0.true, law.hole_does _ _ _ _ _ _ _ _ (law.is_hole _ _ _ _ c.if-holes.true c.peek.ensures c.if-peek-eq0.true) c.step.ensures (runs_does (c.copy.ensures.0 _ _)))
 
 pub item-returns-then-l : goal.item-returns-then-l
-item-returns-then-l t c = let e : hole_at _ _ _ ≡ false = (elim c.if-holes.branch [ item-then-holes+else-peek-eq0 w ↦ law.no_hole _ _ _ _ w.if-holes.true w.peek.ensures w.if-peek-eq0.false | item-else-holes w ↦ law.full _ _ _ w.if-holes.false ]) in
+item-returns-then-l t c = let e : hole_at _ _ _ ≡ false = (elim c.else-holes.branch [ item-else-holes-via-then-holes+else-peek-eq0 w ↦ law.no_hole _ _ _ _ w.if-holes.true w.peek.ensures w.if-peek-eq0.false | item-else-holes-via-else-holes w ↦ law.full _ _ _ w.if-holes.false ]) in
     (law.deeper_next _ _ _ _ _ c.marked.ensures.1 c.node.ensures.0 ∙ law.item_next _ _ _ _ e, law.statement_does _ _ _ _ _ _ _ _ _ _ e c.if-l.true c.step-then-l.ensures c.wide_at.ensures c.marked.ensures.0 (law.deeper _ _ _ _ _ c.marked.ensures.1 c.node.ensures.1))
 
 pub item-returns : goal.item-returns
-item-returns t c = let e : hole_at _ _ _ ≡ false = (elim c.if-holes.branch [ item-then-holes+else-peek-eq0 w ↦ law.no_hole _ _ _ _ w.if-holes.true w.peek.ensures w.if-peek-eq0.false | item-else-holes w ↦ law.full _ _ _ w.if-holes.false ]) in
+item-returns t c = let e : hole_at _ _ _ ≡ false = (elim c.else-holes.branch [ item-else-holes-via-then-holes+else-peek-eq0 w ↦ law.no_hole _ _ _ _ w.if-holes.true w.peek.ensures w.if-peek-eq0.false | item-else-holes-via-else-holes w ↦ law.full _ _ _ w.if-holes.false ]) in
     (c.node-2.ensures.0 ∙ law.item_next _ _ _ _ e, law.node_does _ _ _ _ _ _ _ e c.if-l.false c.node-2.ensures.1)
 
 pub items-loop-init : goal.items-loop-init
@@ -368,7 +368,7 @@ pub key-returns-then-is_other : goal.key-returns-then-is_other
 key-returns-then-is_other t c = viewing.key_cell _ _ _ _ _ _ _ _ _ c.if-taken.true c.is_other.ensures c.if-is_other.true c.skip.ensures c.to.ensures.1 (c.to.ensures.0 _ _ _) (runs_does c.temporary.ensures.0)
 
 pub key-returns : goal.key-returns
-key-returns t c = viewing.key_node_lem _ _ _ _ _ _ _ (elim c.if-taken.branch [ key-then-taken+else-is_other w ↦ λ h. sym w.is_other.ensures ∙ w.if-is_other.false | key-else-taken w ↦ λ h. absurd (false≢true (sym w.if-taken.false ∙ h)) ]) c.node.ensures
+key-returns t c = viewing.key_node_lem _ _ _ _ _ _ _ (elim c.else-taken.branch [ key-else-taken-via-then-taken+else-is_other w ↦ λ h. sym w.is_other.ensures ∙ w.if-is_other.false | key-else-taken-via-else-taken w ↦ λ h. absurd (false≢true (sym w.if-taken.false ∙ h)) ]) c.node.ensures
 
 pub keys-returns-then-c-eq0 : goal.keys-returns-then-c-eq0
 keys-returns-then-c-eq0 t c = (refl, λ good h. law.good_none _ _ _ c.if-c-eq0.true good)
@@ -392,10 +392,10 @@ pub literal-returns : goal.literal-returns
 literal-returns t c = λ h. (c.plain.ensures.0, args.object_plain _ _ _ _ _ (λ k. c.has_spread.ensures ∙ heads.spread_literal _ _ _ k) c.if-has_spread.false h c.plain.ensures.1)
 
 pub lowered-returns-in-Wanted : goal.lowered-returns-in-Wanted
-lowered-returns-in-Wanted t c = declaring.lowered_kept _ _ _ _ _ _ _ _ _ _ _ _ _ _ _ _ _ _ c.in-Wanted.is (runs_does (c.put2.ensures.0 _ _)) (runs_does c.temporary.ensures.0) (c.to-u.ensures.0 _ _ _) c.to-u.ensures.1 c.place_of.ensures c.create_read_expression-taken.ensures.0 c.told_inside.ensures.0 c.told_inside.ensures.1 c.node-u.ensures c.create_read_expression-taken.ensures.1 (c.to.ensures.0 _ _ _) c.to.ensures.1 c.declarators.ensures
+lowered-returns-in-Wanted t c = declaring.lowered_kept _ _ _ _ _ _ _ _ _ _ _ _ _ _ _ _ _ _ c.in-Wanted.is (runs_does (c.put2.ensures.0 _ _)) (runs_does c.temporary.ensures.0) (c.to-u.ensures.0 _ _ _) c.to-u.ensures.1 c.place_of.ensures (c.create_read_expression-taken.ensures.0 ∙ sym (ap read_of c.in-Wanted.is)) c.told_inside.ensures.0 c.told_inside.ensures.1 c.node-u.ensures (c.create_read_expression-taken.ensures.1 ∙ sym (ap after_read c.in-Wanted.is)) (c.to.ensures.0 _ _ _) c.to.ensures.1 c.declarators.ensures
 
 pub lowered-returns-in_default : goal.lowered-returns-in_default
-lowered-returns-in_default t c = declaring.lowered_read _ _ _ _ _ _ _ (λ l m k s. c.in_default.not-Wanted l m k s) (c.to-2.ensures.0 _ _ _) c.to-2.ensures.1 c.declarators-2.ensures
+lowered-returns-in_default t c = declaring.lowered_read _ _ _ _ _ _ _ (λ l m k s. c.in_default.not-Wanted l m k s) (c.to-in_default.ensures.0 _ _ _) c.to-in_default.ensures.1 c.declarators-in_default.ensures
 
 pub fronts_of_pattern-returns-then-c-eq0 : goal.fronts_of_pattern-returns-then-c-eq0
 fronts_of_pattern-returns-then-c-eq0 t c = moving.moved_none _ _ _ _ c.if-c-eq0.true
@@ -455,7 +455,7 @@ pub own_pattern-returns-then-has_no_properties : goal.own_pattern-returns-then-h
 own_pattern-returns-then-has_no_properties t c = with-next (declaring.own_pattern_left _ _ _ _ _ _ c.has_no_properties.ensures c.if-has_no_properties.true) (reading.keeps_same _)
 
 pub own_pattern-returns : goal.own_pattern-returns
-own_pattern-returns t c = with-next (declaring.own_pattern_done _ _ _ _ _ _ _ _ _ _ _ _ c.has_no_properties.ensures c.if-has_no_properties.false (runs_does (c.put2.ensures.0 _ _)) c.put2.ensures.1 c.told_inside.ensures.0 c.told_inside.ensures.1 c.view-u.ensures ((c.source-s.ensures.0, runs_does c.source-s.ensures.2)) (c.to-v.ensures.0 _ _ _) c.to-v.ensures.1) (reading.keeps_read _ _ c.source-s.ensures.1)
+own_pattern-returns t c = with-next (declaring.own_pattern_done _ _ _ _ _ _ _ _ _ _ _ _ c.has_no_properties.ensures c.if-has_no_properties.false (runs_does (c.put2.ensures.0 _ _)) c.put2.ensures.1 c.told_inside.ensures.0 c.told_inside.ensures.1 c.view-u.ensures ((c.source-s.ensures.0, runs_does c.source-s.ensures.2)) (c.to.ensures.0 _ _ _) c.to.ensures.1) (reading.keeps_read _ _ c.source-s.ensures.1)
 
 pub own_rest-returns-then-has_second : goal.own_rest-returns-then-has_second
 own_rest-returns-then-has_second t c = declaring.own_rest_done _ _ _ _ _ _ _ _ _ _ _ _ _ _ _ _ _ _ _ _ c.has_second.ensures c.if-has_second.true c.less-left.ensures c.step-q.ensures c.wide_at.ensures c.step.ensures c.skip_items-r.ensures (runs_does (c.put2.ensures.0 _ _)) (c.to.ensures.0 _ _ _) c.to.ensures.1 c.told_inside.ensures.0 c.told_inside.ensures.1 c.node-u.ensures (told.with_inner _ _ c.inside.ensures.0) c.inside.ensures.1 (c.rest-s.ensures.0, c.rest-s.ensures.2) (c.to-then-has_second.ensures.0 _ _ _) c.to-then-has_second.ensures.1 (walked.source_quiet _ _)
@@ -542,7 +542,7 @@ property-returns-then-has_first t c = (
 )
 
 pub property-returns : goal.property-returns
-property-returns t c = (c.node-2.ensures.0, λ small. (elim c.if-is_spread.branch [ property-then-is_spread+else-has_first w ↦ λ good. args.part_plain _ _ _ _ _ _ _ c.is_spread.ensures w.has_first.ensures w.if-is_spread.true w.if-has_first.false good | property-else-is_spread w ↦ args.part_node _ _ _ _ _ _ c.is_spread.ensures w.if-is_spread.false c.node-2.ensures.1 ]))
+property-returns t c = (c.node-2.ensures.0, λ small. (elim c.else-is_spread.branch [ property-else-is_spread-via-then-is_spread+else-has_first w ↦ λ good. args.part_plain _ _ _ _ _ _ _ c.is_spread.ensures w.has_first.ensures w.if-is_spread.true w.if-has_first.false good | property-else-is_spread-via-else-is_spread w ↦ args.part_node _ _ _ _ _ _ c.is_spread.ensures w.if-is_spread.false c.node-2.ensures.1 ]))
 
 pub read-returns-then-hoisted : goal.read-returns-then-hoisted
 read-returns-then-hoisted t c = (c.temporary.ensures.1, excluding.read_cell _ _ _ _ _ _ c.hoisted.ensures c.if-hoisted.true c.cell.ensures (runs_does c.temporary.ensures.0))
@@ -628,37 +628,37 @@ pub top-returns-then-c : goal.top-returns-then-c
 top-returns-then-c t c = λ k h. assigning.top_does _ _ _ _ _ _ _ _ _ _ _ _ _ _ _ _ _ _ _ _ _ (refused_none c.in_default.is c.refusal.ensures) (omega arith) c.told_inside-d.ensures (c.top_hands-u.ensures.1 _) (hands.top_counted _ _ _ _ c.top_count-k.ensures) (runs_does (c.put2.ensures.0 _ _)) (steps.does_wide _ (c.wide.ensures.0 _ _)) (runs_does (c.assign.ensures.0 _ _)) c.cell-v.ensures (runs_does c.temporary-u.ensures.0) (assigning.given_at _ _ _ _ _ _ _ (assigning.forced_place _ _ _ _ _ _ _ c.place_of-y.ensures c.create_read_expression-first.ensures.0 c.new-b.ensures) c.given_value-u.ensures) (c.target-s.ensures.1 (assigning.forced_reads _ _ _ _ _ _ _ c.new-b.ensures c.create_read_expression-first.ensures.1 c.cell-v.ensures)) (c.object_properties-u.ensures (told.told_value_lem _)) (runs_does (c.assign-2.ensures.0 _ _)) c.assign-2.ensures.1 c.less.ensures c.told_inside.ensures c.node-u.ensures.1 refl (λ u. sources.reads_cell u _ _ _ ((c.target-s.ensures.0 (reading.settled_read _ _ c.create_read_expression-first.ensures.1)).1 ∙ (assigning.forced_reads _ _ _ _ _ _ _ c.new-b.ensures c.create_read_expression-first.ensures.1 c.cell-v.ensures))) (told.own_inner _ _ refl c.told_inside-d.ensures.0) (c.rest-s.ensures.2 (c.target-s.ensures.0 (reading.settled_read _ _ c.create_read_expression-first.ensures.1)).0) (λ w. does_nothing _) (assigning.read_none _ _ c.if-c.true) k h
 
 pub top-returns : goal.top-returns
-top-returns t c = λ k h. assigning.top_does _ _ _ _ _ _ _ _ _ _ _ _ _ _ _ _ _ _ _ _ _ (refused_none c.in_default.is c.refusal.ensures) (omega arith) c.told_inside-d.ensures (c.top_hands-u.ensures.1 _) (hands.top_counted _ _ _ _ c.top_count-k.ensures) (runs_does (c.put2.ensures.0 _ _)) (steps.does_wide _ (c.wide.ensures.0 _ _)) (runs_does (c.assign.ensures.0 _ _)) c.cell-v.ensures (runs_does c.temporary-u.ensures.0) (assigning.given_at _ _ _ _ _ _ _ (assigning.forced_place _ _ _ _ _ _ _ c.place_of-y.ensures c.create_read_expression-first.ensures.0 c.new-b.ensures) c.given_value-u.ensures) (c.target-s.ensures.1 (assigning.forced_reads _ _ _ _ _ _ _ c.new-b.ensures c.create_read_expression-first.ensures.1 c.cell-v.ensures)) (c.object_properties-u.ensures (told.told_value_lem _)) (runs_does (c.assign-2.ensures.0 _ _)) c.assign-2.ensures.1 c.less.ensures c.told_inside.ensures c.node-u.ensures.1 refl (λ u. sources.reads_cell u _ _ _ ((c.target-s.ensures.0 (reading.settled_read _ _ c.create_read_expression-first.ensures.1)).1 ∙ (assigning.forced_reads _ _ _ _ _ _ _ c.new-b.ensures c.create_read_expression-first.ensures.1 c.cell-v.ensures))) (told.own_inner _ _ refl c.told_inside-d.ensures.0) (c.rest-s.ensures.2 (c.target-s.ensures.0 (reading.settled_read _ _ c.create_read_expression-first.ensures.1)).0) (assigning.value_read _ _ refl (running.does_as (runs_does c.source-s.ensures.2) (sources.reads_cell _ _ _ _ ((c.rest-s.ensures.1 (c.target-s.ensures.0 (reading.settled_read _ _ c.create_read_expression-first.ensures.1)).0).1 ∙ ((c.target-s.ensures.0 (reading.settled_read _ _ c.create_read_expression-first.ensures.1)).1 ∙ (assigning.forced_reads _ _ _ _ _ _ _ c.new-b.ensures c.create_read_expression-first.ensures.1 c.cell-v.ensures)))))) (assigning.read_some _ _ c.if-c.false) k h
+top-returns t c = λ k h. assigning.top_does _ _ _ _ _ _ _ _ _ _ _ _ _ _ _ _ _ _ _ _ _ (refused_none c.in_default.is c.refusal.ensures) (omega arith) c.told_inside-d.ensures (c.top_hands-u.ensures.1 _) (hands.top_counted _ _ _ _ c.top_count-k.ensures) (runs_does (c.put2.ensures.0 _ _)) (steps.does_wide _ (c.wide.ensures.0 _ _)) (runs_does (c.assign.ensures.0 _ _)) c.cell-v.ensures (runs_does c.temporary-u.ensures.0) (assigning.given_at _ _ _ _ _ _ _ (assigning.forced_place _ _ _ _ _ _ _ c.place_of-y.ensures c.create_read_expression-first.ensures.0 c.new-b.ensures) c.given_value-u.ensures) (c.target-s.ensures.1 (assigning.forced_reads _ _ _ _ _ _ _ c.new-b.ensures c.create_read_expression-first.ensures.1 c.cell-v.ensures)) (c.object_properties-u.ensures (told.told_value_lem _)) (runs_does (c.assign-2.ensures.0 _ _)) c.assign-2.ensures.1 c.less.ensures c.told_inside.ensures c.node-u.ensures.1 refl (λ u. sources.reads_cell u _ _ _ ((c.target-s.ensures.0 (reading.settled_read _ _ c.create_read_expression-first.ensures.1)).1 ∙ (assigning.forced_reads _ _ _ _ _ _ _ c.new-b.ensures c.create_read_expression-first.ensures.1 c.cell-v.ensures))) (told.own_inner _ _ refl c.told_inside-d.ensures.0) (c.rest-s.ensures.2 (c.target-s.ensures.0 (reading.settled_read _ _ c.create_read_expression-first.ensures.1)).0) (assigning.value_read _ _ refl (running.does_as (runs_does c.source.ensures.2) (sources.reads_cell _ _ _ _ ((c.rest-s.ensures.1 (c.target-s.ensures.0 (reading.settled_read _ _ c.create_read_expression-first.ensures.1)).0).1 ∙ ((c.target-s.ensures.0 (reading.settled_read _ _ c.create_read_expression-first.ensures.1)).1 ∙ (assigning.forced_reads _ _ _ _ _ _ _ c.new-b.ensures c.create_read_expression-first.ensures.1 c.cell-v.ensures)))))) (assigning.read_some _ _ c.if-c.false) k h
 
 pub turn-returns-then-peek-eq0 : goal.turn-returns-then-peek-eq0
 turn-returns-then-peek-eq0 t c = turning.turned_hole _ _ _ _ _ _ _ _ c.if-holes.true c.peek.ensures c.if-peek-eq0.true c.hole.ensures.0 (sources.does_hole _ _ _ (c.hole.ensures.1 _ _))
 
 pub turn-returns-in-Viewed : goal.turn-returns-in-Viewed
-turn-returns-in-Viewed t c = told.item_own _ _ _ _ _ _ _ _ _ _ (ap is_told c.in-Viewed.is ∙ told.untold_viewed) (turning.turned_viewed _ _ _ _ _ _ _ (elim c.if-holes.branch [ turn-then-holes+else-peek-eq0 w ↦ law.no_hole _ _ _ _ w.if-holes.true w.peek.ensures w.if-peek-eq0.false | turn-else-holes w ↦ law.full _ _ _ w.if-holes.false ]) c.in-Viewed.is c.view.ensures)
+turn-returns-in-Viewed t c = told.item_own _ _ _ _ _ _ _ _ _ _ (ap is_told c.in-Viewed.is ∙ told.untold_viewed) (turning.turned_viewed _ _ _ _ _ _ _ (elim c.else-holes.branch [ turn-else-holes-via-then-holes+else-peek-eq0 w ↦ law.no_hole _ _ _ _ w.if-holes.true w.peek.ensures w.if-peek-eq0.false | turn-else-holes-via-else-holes w ↦ law.full _ _ _ w.if-holes.false ]) c.in-Viewed.is c.view.ensures)
 
 pub turn-returns-in-MovedOut : goal.turn-returns-in-MovedOut
-turn-returns-in-MovedOut t c = told.item_own _ _ _ _ _ _ _ _ _ _ (ap is_told c.in-MovedOut.is ∙ told.untold_moved_out) (turning.turned_moved_out _ _ _ _ _ _ _ (elim c.if-holes.branch [ turn-then-holes+else-peek-eq0 w ↦ law.no_hole _ _ _ _ w.if-holes.true w.peek.ensures w.if-peek-eq0.false | turn-else-holes w ↦ law.full _ _ _ w.if-holes.false ]) c.in-MovedOut.is c.moved_out.ensures)
+turn-returns-in-MovedOut t c = told.item_own _ _ _ _ _ _ _ _ _ _ (ap is_told c.in-MovedOut.is ∙ told.untold_moved_out) (turning.turned_moved_out _ _ _ _ _ _ _ (elim c.else-holes.branch [ turn-else-holes-via-then-holes+else-peek-eq0 w ↦ law.no_hole _ _ _ _ w.if-holes.true w.peek.ensures w.if-peek-eq0.false | turn-else-holes-via-else-holes w ↦ law.full _ _ _ w.if-holes.false ]) c.in-MovedOut.is c.moved_out.ensures)
 
 pub turn-returns-in-Below : goal.turn-returns-in-Below
-turn-returns-in-Below t c = told.item_with _ _ _ _ _ _ _ _ _ _ (ap is_told c.in-Below.is ∙ told.told_below _) (turning.turned_below _ _ _ _ _ _ _ (elim c.if-holes.branch [ turn-then-holes+else-peek-eq0 w ↦ law.no_hole _ _ _ _ w.if-holes.true w.peek.ensures w.if-peek-eq0.false | turn-else-holes w ↦ law.full _ _ _ w.if-holes.false ]) _ c.in-Below.is c.deep.ensures)
+turn-returns-in-Below t c = told.item_with _ _ _ _ _ _ _ _ _ _ (ap is_told c.in-Below.is ∙ told.told_below _) (turning.turned_below _ _ _ _ _ _ _ (elim c.else-holes.branch [ turn-else-holes-via-then-holes+else-peek-eq0 w ↦ law.no_hole _ _ _ _ w.if-holes.true w.peek.ensures w.if-peek-eq0.false | turn-else-holes-via-else-holes w ↦ law.full _ _ _ w.if-holes.false ]) _ c.in-Below.is c.deep.ensures)
 
 pub turn-returns-in-Property : goal.turn-returns-in-Property
-turn-returns-in-Property t c = told.item_own _ _ _ _ _ _ _ _ _ _ (ap is_told c.in-Property.is ∙ told.untold_property _) (turning.turned_property _ _ _ _ _ _ _ (elim c.if-holes.branch [ turn-then-holes+else-peek-eq0 w ↦ law.no_hole _ _ _ _ w.if-holes.true w.peek.ensures w.if-peek-eq0.false | turn-else-holes w ↦ law.full _ _ _ w.if-holes.false ]) _ c.in-Property.is c.view_property.ensures)
+turn-returns-in-Property t c = told.item_own _ _ _ _ _ _ _ _ _ _ (ap is_told c.in-Property.is ∙ told.untold_property _) (turning.turned_property _ _ _ _ _ _ _ (elim c.else-holes.branch [ turn-else-holes-via-then-holes+else-peek-eq0 w ↦ law.no_hole _ _ _ _ w.if-holes.true w.peek.ensures w.if-peek-eq0.false | turn-else-holes-via-else-holes w ↦ law.full _ _ _ w.if-holes.false ]) _ c.in-Property.is c.view_property.ensures)
 
 pub turn-returns-in-ExcludedKey : goal.turn-returns-in-ExcludedKey
-turn-returns-in-ExcludedKey t c = told.item_own _ _ _ _ _ _ _ _ _ _ (ap is_told c.in-ExcludedKey.is ∙ told.untold_excluded_key) (turning.turned_excluded_key _ _ _ _ _ _ _ (elim c.if-holes.branch [ turn-then-holes+else-peek-eq0 w ↦ law.no_hole _ _ _ _ w.if-holes.true w.peek.ensures w.if-peek-eq0.false | turn-else-holes w ↦ law.full _ _ _ w.if-holes.false ]) c.in-ExcludedKey.is c.excluded_key.ensures)
+turn-returns-in-ExcludedKey t c = told.item_own _ _ _ _ _ _ _ _ _ _ (ap is_told c.in-ExcludedKey.is ∙ told.untold_excluded_key) (turning.turned_excluded_key _ _ _ _ _ _ _ (elim c.else-holes.branch [ turn-else-holes-via-then-holes+else-peek-eq0 w ↦ law.no_hole _ _ _ _ w.if-holes.true w.peek.ensures w.if-peek-eq0.false | turn-else-holes-via-else-holes w ↦ law.full _ _ _ w.if-holes.false ]) c.in-ExcludedKey.is c.excluded_key.ensures)
 
 pub turn-returns-in-KeyValue : goal.turn-returns-in-KeyValue
-turn-returns-in-KeyValue t c = told.item_own _ _ _ _ _ _ _ _ _ _ (ap is_told c.in-KeyValue.is ∙ told.untold_key_value) (turning.turned_key_value _ _ _ _ _ _ _ (elim c.if-holes.branch [ turn-then-holes+else-peek-eq0 w ↦ law.no_hole _ _ _ _ w.if-holes.true w.peek.ensures w.if-peek-eq0.false | turn-else-holes w ↦ law.full _ _ _ w.if-holes.false ]) c.in-KeyValue.is c.key_value.ensures)
+turn-returns-in-KeyValue t c = told.item_own _ _ _ _ _ _ _ _ _ _ (ap is_told c.in-KeyValue.is ∙ told.untold_key_value) (turning.turned_key_value _ _ _ _ _ _ _ (elim c.else-holes.branch [ turn-else-holes-via-then-holes+else-peek-eq0 w ↦ law.no_hole _ _ _ _ w.if-holes.true w.peek.ensures w.if-peek-eq0.false | turn-else-holes-via-else-holes w ↦ law.full _ _ _ w.if-holes.false ]) c.in-KeyValue.is c.key_value.ensures)
 
 pub turn-returns-in-Value : goal.turn-returns-in-Value
-turn-returns-in-Value t c = told.item_with _ _ _ _ _ _ _ _ _ _ (ap is_told c.in-Value.is ∙ told.told_value_lem _) (turning.turned_value _ _ _ _ _ _ _ (elim c.if-holes.branch [ turn-then-holes+else-peek-eq0 w ↦ law.no_hole _ _ _ _ w.if-holes.true w.peek.ensures w.if-peek-eq0.false | turn-else-holes w ↦ law.full _ _ _ w.if-holes.false ]) _ c.in-Value.is c.deep_value.ensures)
+turn-returns-in-Value t c = told.item_with _ _ _ _ _ _ _ _ _ _ (ap is_told c.in-Value.is ∙ told.told_value_lem _) (turning.turned_value _ _ _ _ _ _ _ (elim c.else-holes.branch [ turn-else-holes-via-then-holes+else-peek-eq0 w ↦ law.no_hole _ _ _ _ w.if-holes.true w.peek.ensures w.if-peek-eq0.false | turn-else-holes-via-else-holes w ↦ law.full _ _ _ w.if-holes.false ]) _ c.in-Value.is c.deep_value.ensures)
 
 pub turn-returns-in-Declarator : goal.turn-returns-in-Declarator
-turn-returns-in-Declarator t c = told.item_with _ _ _ _ _ _ _ _ _ _ (ap is_told c.in-Declarator.is ∙ told.told_declarator) (turning.turned_declarator _ _ _ _ _ _ _ (elim c.if-holes.branch [ turn-then-holes+else-peek-eq0 w ↦ law.no_hole _ _ _ _ w.if-holes.true w.peek.ensures w.if-peek-eq0.false | turn-else-holes w ↦ law.full _ _ _ w.if-holes.false ]) c.in-Declarator.is c.declarator.ensures)
+turn-returns-in-Declarator t c = told.item_with _ _ _ _ _ _ _ _ _ _ (ap is_told c.in-Declarator.is ∙ told.told_declarator) (turning.turned_declarator _ _ _ _ _ _ _ (elim c.else-holes.branch [ turn-else-holes-via-then-holes+else-peek-eq0 w ↦ law.no_hole _ _ _ _ w.if-holes.true w.peek.ensures w.if-peek-eq0.false | turn-else-holes-via-else-holes w ↦ law.full _ _ _ w.if-holes.false ]) c.in-Declarator.is c.declarator.ensures)
 
 pub turn-returns-in-Binding : goal.turn-returns-in-Binding
-turn-returns-in-Binding t c = told.item_own _ _ _ _ _ _ _ _ _ _ (ap is_told c.in-Binding.is ∙ told.untold_binding) (turning.turned_binding _ _ _ _ _ _ _ (elim c.if-holes.branch [ turn-then-holes+else-peek-eq0 w ↦ law.no_hole _ _ _ _ w.if-holes.true w.peek.ensures w.if-peek-eq0.false | turn-else-holes w ↦ law.full _ _ _ w.if-holes.false ]) c.in-Binding.is c.binding.ensures)
+turn-returns-in-Binding t c = told.item_own _ _ _ _ _ _ _ _ _ _ (ap is_told c.in-Binding.is ∙ told.untold_binding) (turning.turned_binding _ _ _ _ _ _ _ (elim c.else-holes.branch [ turn-else-holes-via-then-holes+else-peek-eq0 w ↦ law.no_hole _ _ _ _ w.if-holes.true w.peek.ensures w.if-peek-eq0.false | turn-else-holes-via-else-holes w ↦ law.full _ _ _ w.if-holes.false ]) c.in-Binding.is c.binding.ensures)
 
 pub view_array-returns-then-c-eq0 : goal.view_array-returns-then-c-eq0
 view_array-returns-then-c-eq0 t c = λ h good. law.good_none _ _ _ c.if-c-eq0.true good
@@ -698,7 +698,7 @@ pub view_object-returns-then-replaces : goal.view_object-returns-then-replaces
 view_object-returns-then-replaces t c = viewing.object_replaced _ _ _ _ _ _ _ _ _ c.has_second-rest.ensures c.if-rest.true c.replaces.ensures c.if-replaces.true c.skip.ensures c.to.ensures.1 (c.to.ensures.0 _ _ _) (runs_does c.temporary.ensures.0)
 
 pub view_object-returns-then-rest-2 : goal.view_object-returns-then-rest-2
-view_object-returns-then-rest-2 t c = viewing.object_rest_lem _ _ _ _ _ _ _ _ _ _ _ _ _ _ _ _ _ c.has_second-rest.ensures c.if-rest-2.true (elim c.if-rest.branch [ view_object-then-rest+else-replaces w ↦ sym w.replaces.ensures ∙ w.if-replaces.false | view_object-else-rest w ↦ absurd (false≢true (sym w.if-rest.false ∙ c.if-rest-2.true)) ]) c.step-q.ensures c.wide_at-n.ensures c.step.ensures c.to-u.ensures.1 c.inside.ensures.0 (c.inside.ensures.1 ∙ c.less-left.ensures) c.less-left.ensures refl (c.to-u.ensures.0 _ _ _) (runs_does (c.put2.ensures.0 _ _)) (steps.does_wide _ (c.wide.ensures.0 _ _)) (told.items_own _ _ _ _ _ _ _ _ _ _ _ (told.untold_property _) c.turns-u.ensures) c.skip-then-rest-2.ensures c.to-then-rest-2.ensures.1 (c.to-then-rest-2.ensures.0 _ _ _)
+view_object-returns-then-rest-2 t c = viewing.object_rest_lem _ _ _ _ _ _ _ _ _ _ _ _ _ _ _ _ _ c.has_second-rest.ensures c.if-rest-2.true (elim c.else-rest.branch [ view_object-else-rest-via-then-rest+else-replaces w ↦ sym w.replaces.ensures ∙ w.if-replaces.false | view_object-else-rest-via-else-rest w ↦ absurd (false≢true (sym w.if-rest.false ∙ c.if-rest-2.true)) ]) c.step-q.ensures c.wide_at-n.ensures c.step.ensures c.to-u.ensures.1 c.inside.ensures.0 (c.inside.ensures.1 ∙ c.less-left.ensures) c.less-left.ensures refl (c.to-u.ensures.0 _ _ _) (runs_does (c.put2.ensures.0 _ _)) (steps.does_wide _ (c.wide.ensures.0 _ _)) (told.items_own _ _ _ _ _ _ _ _ _ _ _ (told.untold_property _) c.turns-u.ensures) c.skip-then-rest-2.ensures c.to-then-rest-2.ensures.1 (c.to-then-rest-2.ensures.0 _ _ _)
 
 pub view_object-returns : goal.view_object-returns
 view_object-returns t c = viewing.object_plain _ _ _ _ _ _ _ _ _ _ _ _ _ _ c.has_second-rest.ensures c.if-rest-2.false c.step-q.ensures c.wide_at-n.ensures c.step.ensures c.to-u.ensures.1 c.inside.ensures.0 (c.inside.ensures.1 ∙ c.less-left.ensures) refl (c.to-u.ensures.0 _ _ _) (runs_does (c.put2.ensures.0 _ _)) (steps.does_wide _ (c.wide.ensures.0 _ _)) (told.items_own _ _ _ _ _ _ _ _ _ _ _ (told.untold_property _) c.turns-u.ensures)
