@@ -1,17 +1,20 @@
 -- Declarators, counted, case by case; and the first refusal at the keys of a declaration.
 -- Assumes nothing.
-use mathlib.Core.Path.{◌≡◌, refl, sym, ap, ◌∙◌}
-use mathlib.Core.Bool.{Bool, true, false, cond, ◌&&◌}
-use mathlib.Core.List.{List}
-use Prim.Native.Nat.{ℕ, ◌+◌, ◌-◌, ◌<◌, ◌≤◌}
+use mathlib.Core.Path.{◌≡◌, refl, sym, ap, subst, ◌∙◌}
+use mathlib.Core.Bool.{Bool, true, false, cond, not, ◌&&◌}
+use mathlib.Core.List.{List, ◌∷◌}
+use Prim.Native.Nat.{ℕ, zero, suc, ◌+◌, ◌-◌, ◌<◌, ◌≤◌}
 use native.Mathlib.Omega.{arith}
+use lib.Dec.{eqb}
 use borrow.Author.Tests.{eq-eqb, ne_eqb}
+use Rattle.std.specs.Prelude.{Option, None}
+use Rattle.std.specs.List.{FoldsTo}
 use Rattle.tree.specs.Tree.{Node, Items, count}
 use Rattle.tree.specs.Tree.Items.{none}
 use Rattle.tree.specs.Read.{byte_at}
 use Rattle.tree.specs.Answer.{Peeked}
 use Rattle.tree.specs.Look.{look_item, look_node}
-use Rattle.lowering.specs.Parts.{nothing, piece_in, node_at_of, items_at_of, stands, only, gather, or_else, first}
+use Rattle.lowering.specs.Parts.{nothing, node_at_of, items_at_of, stands, only, gather, or_else, first}
 use Rattle.lowering.specs.Made.{Context, declares, value_of}
 use Rattle.lowering.specs.Patterns.{shape, objects_with_rest, objects_below}
 use Rattle.lowering.specs.Keys.{keys_refusal}
@@ -20,12 +23,14 @@ use Rattle.lowering.specs.Declarations.{is_name_of, source, source_declarator, p
 use Rattle.pattern.specs.declared.parts.Place.{Place}
 use Rattle.pattern.specs.declared.parts.Run.{Run}
 use Rattle.pattern.specs.Parts.{part_at, place_of, run_of, node_here}
+use Rattle.pattern.specs.declared.tally.Refusal.{Refusal}
+use Rattle.pattern.specs.Refusals.{refusal_number}
 use Rattle.pattern.specs.Tally.{Totals, limited}
 use Rattle.pattern.specs.Objects.{rests_tally}
-use Rattle.pattern.specs.Declarators.{made, item_count_of, declarator_refusal, item_refusal}
+use Rattle.pattern.specs.Declarators.{made, declarator_refusal, starts, run_starts, starts_in}
 use Rattle.pattern.proofs.NodeParts.{Blank, child_is, list_is, kind_is, no_levels}
 use Rattle.pattern.proofs.Below as below
-use Rattle.pattern.proofs.CappedSums.{at_start, numbers, refusals, first_sum, Adds, sum_of, list_sum, sum_start, sum_turn, sum_done, plus_right}
+use Rattle.pattern.proofs.CappedSums.{Adding, numbers, refusals, first_sum, Adds, sum_of, list_sum, sum_start, sum_more, sum_end, plus_right}
 use Rattle.pattern.proofs.MovesCounted.{count_sum}
 use Rattle.pattern.proofs.SourceReads.{name_blank}
 use Rattle.pattern.proofs.Counting as counting
@@ -136,75 +141,83 @@ module _ (l : List ℕ) where
     unfolding lowered_in first
     refuses_no i c = rw (sym y ∙ i)
 
-  -- ---- a declaration's list
+  -- ---- the declarators of a declaration, one after the other
 
   abbrev pub declared_in : ℕ → ℕ → Items
   declared_in left at = items_at_of 2 (look_node l left at).value
 
+  abbrev next : ℕ → Bool → ℕ → ℕ
+  next d h at = (look_item l (look_node l d) h at).next
+
+  -- whether an item is a hole, by the byte there
+  is_hole : (h : Bool) (at : ℕ) → not h ≡ false → byte_at l at ≡ 0 → h && eqb (byte_at l at) 0 ≡ true
+  is_hole true at y w = eq-eqb (byte_at l at) 0 w
+  is_hole false at y w = cc
+
+  pub no_holes : (h : Bool) (at : ℕ) → not h ≡ true → h && eqb (byte_at l at) 0 ≡ false
+  no_holes true at e = cc
+  no_holes false at e = refl
+
+  pub no_hole : (h : Bool) (at n : ℕ) → Peeked l at n → (n ≡ 0 → ⊥) → h && eqb (byte_at l at) 0 ≡ false
+  no_hole true at n p z = ne_eqb (byte_at l at) 0 (λ y. z (p.value ∙ y))
+  no_hole false at n p z = refl
+
+  module _ {T : Type 0} (R : T → ℕ → T → Type 0) where
+    pub folds_none : (left at : ℕ) (t : T) → left ≡ 0 → FoldsTo R t (starts_in l left at) t
+    unfolding part_at run_of starts
+    folds_none left at t z = rw z refl
+
+    pub folds_start : (left at : ℕ) (r : Run) (t u : T) → r ≡ run_of at (part_at l left at 2) → FoldsTo R t (starts l (left - 1) r.holes (r.count - 0) r.from) u → FoldsTo R t (starts_in l left at) u
+    folds_start left at r t u e a = subst (λ (x : Run). FoldsTo R t (run_starts l (left - 1) x) u) e (let s : r.count - 0 ≡ r.count = omega arith in subst (λ (m : ℕ). FoldsTo R t (starts l (left - 1) r.holes m r.from) u) s a)
+
+    pub folds_end : (d : ℕ) (h : Bool) (n i at : ℕ) (t : T) → n ≤ i → FoldsTo R t (starts l d h (n - i) at) t
+    unfolding starts
+    folds_end d h n i at t z = let s : n - i ≡ 0 = omega arith in rw s refl
+
+    module _ (d : ℕ) (h : Bool) (n i at q : ℕ) (t u : T) (z : i < n) (g : q ≡ next d h at) where
+      split : starts l d h (n - i) at ≡ cond (h && eqb (byte_at l at) 0) (starts l d h (n - (i + 1)) q) (at ∷ starts l d h (n - (i + 1)) q)
+      unfolding starts
+      split = let s : n - i ≡ suc (n - (i + 1)) = omega arith in rw (s, g) refl
+
+      pub folds_hole : (j : T) → not h ≡ false → byte_at l at ≡ 0 → j ≡ t → FoldsTo R j (starts l d h (n - (i + 1)) q) u → FoldsTo R t (starts l d h (n - i) at) u
+      folds_hole j y w e a =
+          subst (λ (x : List ℕ). FoldsTo R t x u) (sym (split ∙ ap (λ (b : Bool). cond b (starts l d h (n - (i + 1)) q) (at ∷ starts l d h (n - (i + 1)) q)) (is_hole h at y w)))
+          (subst (λ (x : T). FoldsTo R x (starts l d h (n - (i + 1)) q) u) e a)
+
+      pub folds_node : (j : T) → h && eqb (byte_at l at) 0 ≡ false → R t at j → FoldsTo R j (starts l d h (n - (i + 1)) q) u → FoldsTo R t (starts l d h (n - i) at) u
+      folds_node j y r a = subst (λ (x : List ℕ). FoldsTo R t x u) (sym (split ∙ ap (λ (b : Bool). cond b (starts l d h (n - (i + 1)) q) (at ∷ starts l d h (n - (i + 1)) q)) y)) (j, r, a)
+
+  -- where R adds what f says of a node, a fold over the nodes is their sum
+  module _ {T A : Type 0} (M : Adding A) (v : T → A) (f : Node → A) (R : T → ℕ → T → Type 0) (d : ℕ) (step : (t : T) (p : ℕ) (u : T) → R t p u → v u ≡ M.add (v t) (f (look_node l d p).value)) (w : A) where
+    turned : (h : Bool) (n at : ℕ) (t x u : A) → x ≡ cond (h && eqb (byte_at l at) 0) M.empty (f (look_node l d at).value) → u ≡ M.add t x → Adds M t (list_sum M l f d h (suc n) at) w → Adds M u (list_sum M l f d h n (next d h at)) w
+    turned h n at t x u e g a =
+        let s : suc n - 1 ≡ n = omega arith in
+        subst (λ (m : ℕ). Adds M u (list_sum M l f d h m (next d h at)) w) s (sum_more M l f d h (suc n) at (next d h at) t x u w (omega arith) e refl g a)
+
+    pub folds_sum : (h : Bool) (n at : ℕ) (t u : T) → FoldsTo R t (starts l d h n at) u → Adds M (v t) (list_sum M l f d h n at) w → v u ≡ w
+    unfolding starts
+    folds_sum h zero at t u e a = ap v (sym e) ∙ sum_end M l f d h 0 at (v t) w (omega arith) a
+    folds_sum h (suc n) at t u e a = go (h && eqb (byte_at l at) 0) refl e (λ x o b. folds_sum h n (next d h at) x u o b)
+      where
+        go : (b : Bool) → h && eqb (byte_at l at) 0 ≡ b → FoldsTo R t (cond b (starts l d h n (next d h at)) (at ∷ starts l d h n (next d h at))) u
+            → ((x : T) → FoldsTo R x (starts l d h n (next d h at)) u → Adds M (v x) (list_sum M l f d h n (next d h at)) w → v u ≡ w) → v u ≡ w
+        go true s o rest = rest t o (turned h n at (v t) M.empty (v t) (rw s refl) (sym a.1) a)
+        go false s o rest = rest o.0 o.2 (turned h n at (v t) (f (look_node l d at).value) (v o.0) (rw s refl) (step t at o.0 o.1) a)
+
+  -- ---- how many a declaration becomes, and its first refusal
+
   abbrev pub becoming : Context → Node → ℕ
   becoming c d = limited (count (declarators c d))
 
-  pub item_none : (h : Bool) (d at n : ℕ) → h ≡ true → Peeked l at n → n ≡ 0 → (c : Context) → 0 ≡ item_count_of c l h d at
-  unfolding item_count_of
-  item_none h d at n t p z c = rw (t, eq-eqb (byte_at l at) 0 (sym p.value ∙ z))
+  pub becomes_all : (left at u : ℕ) (R : ℕ → ℕ → ℕ → Type 0) → ((t p u : ℕ) → R t p u → (c : Context) → u ≡ limited (t + becoming c (look_node l (left - 1) p).value)) → FoldsTo R 0 (starts_in l left at) u → (c : Context) → u ≡ limited (count (gather (declarators c) (declared_in left at)))
+  becomes_all left at u R step e c =
+      let r : Run = run_of at (part_at l left at 2) in
+      folds_sum numbers (λ (x : ℕ). x) (becoming c) R (left - 1) (λ t p u a. step t p u a c) _ r.holes r.count r.from 0 u e
+      (sum_start numbers l (becoming c) (left - 1) r.holes r.count r.from 0 _ refl (ap (sum_of numbers (becoming c)) (list_is l left at 2 r refl) ∙ count_sum (declarators c) (declared_in left at)))
 
-  pub item_other : (h : Bool) (d at n x : ℕ) → h ≡ true → Peeked l at n → (n ≡ 0 → ⊥) → ((c : Context) → x ≡ becoming c (look_node l d at).value) → (c : Context) → x ≡ item_count_of c l h d at
-  unfolding item_count_of
-  item_other h d at n x t p z a c = rw (t, ne_eqb (byte_at l at) 0 (λ y. z (p.value ∙ y))) (a c)
-
-  pub item_node : (h : Bool) (d at x : ℕ) → h ≡ false → ((c : Context) → x ≡ becoming c (look_node l d at).value) → (c : Context) → x ≡ item_count_of c l h d at
-  unfolding item_count_of
-  item_node h d at x t a c = rw t (a c)
-
-  abbrev pub Becoming : ℕ → ℕ → ℕ → Bool → ℕ → ℕ → ℕ → Type 0
-  Becoming left at below h n p t = (c : Context) → Adds numbers t (list_sum numbers l (becoming c) below h n p) (limited (count (gather (declarators c) (declared_in left at))))
-
-  pub all_none : (d at : ℕ) → d ≡ 0 → (c : Context) → 0 ≡ limited (count (gather (declarators c) (declared_in d at)))
-  unfolding items_at_of piece_in gather count limited
-  all_none d at z c = rw (no_levels l d at z)
-
-  pub all_start : (d at : ℕ) (r : Run) → r ≡ run_of at (part_at l d at 2) → Becoming d at (d - 1) r.holes (r.count - 0) r.from 0
-  all_start d at r e =
-      at_start (λ (m : ℕ). Becoming d at (d - 1) r.holes m r.from 0) r.count
-      (λ c. sum_start numbers l (becoming c) (d - 1) r.holes r.count r.from 0 _ refl (ap (sum_of numbers (becoming c)) (list_is l d at 2 r e) ∙ count_sum (declarators c) (declared_in d at)))
-
-  pub all_more : (left at d : ℕ) (h : Bool) (n i p q t x u : ℕ) → i < n → ((c : Context) → x ≡ item_count_of c l h d p) → q ≡ (look_item l (look_node l d) h p).next → u ≡ limited (t + x) → Becoming left at d h (n - i) p t → Becoming left at d h (n - (i + 1)) q u
-  unfolding item_count_of
-  all_more left at d h n i p q t x u z a g v w c = sum_turn numbers l (becoming c) d h n i p q t x u _ z (a c) g v (w c)
-
-  pub all_end : (left at d : ℕ) (h : Bool) (n i p t : ℕ) → n ≤ i → Becoming left at d h (n - i) p t → (c : Context) → t ≡ limited (count (gather (declarators c) (declared_in left at)))
-  all_end left at d h n i p t z w c = sum_done numbers l (becoming c) d h n i p t _ z (w c)
-
-  -- ---- the first refusal of a declaration
-
-  pub hole_refuses : (h : Bool) (d at n : ℕ) → h ≡ true → Peeked l at n → n ≡ 0 → (c : Context) → 0 ≡ item_refusal c l h d at
-  unfolding item_refusal
-  hole_refuses h d at n t p z c = rw (t, eq-eqb (byte_at l at) 0 (sym p.value ∙ z))
-
-  pub other_refuses : (h : Bool) (d at n x : ℕ) → h ≡ true → Peeked l at n → (n ≡ 0 → ⊥) → ((c : Context) → x ≡ declarator_refusal c (look_node l d at).value) → (c : Context) → x ≡ item_refusal c l h d at
-  unfolding item_refusal
-  other_refuses h d at n x t p z a c = rw (t, ne_eqb (byte_at l at) 0 (λ y. z (p.value ∙ y))) (a c)
-
-  pub node_refuses : (h : Bool) (d at x : ℕ) → h ≡ false → ((c : Context) → x ≡ declarator_refusal c (look_node l d at).value) → (c : Context) → x ≡ item_refusal c l h d at
-  unfolding item_refusal
-  node_refuses h d at x t a c = rw t (a c)
-
-  abbrev pub Refusing : ℕ → ℕ → ℕ → Bool → ℕ → ℕ → ℕ → Type 0
-  Refusing left at below h n p t = (c : Context) → Adds refusals t (list_sum refusals l (declarator_refusal c) below h n p) (declaration_refusal c (look_node l left at).value)
-
-  pub refuses_none : (d at : ℕ) → d ≡ 0 → (c : Context) → 0 ≡ declaration_refusal c (look_node l d at).value
-  unfolding declaration_refusal items_at_of piece_in first
-  refuses_none d at z c = rw (no_levels l d at z)
-
-  pub refuses_start : (d at : ℕ) (r : Run) → r ≡ run_of at (part_at l d at 2) → Refusing d at (d - 1) r.holes (r.count - 0) r.from 0
+  pub refuses_all : (left at : ℕ) (u : Option Refusal) (R : Option Refusal → ℕ → Option Refusal → Type 0) → ((t : Option Refusal) (p : ℕ) (u : Option Refusal) → R t p u → (c : Context) → refusal_number u ≡ or_else (refusal_number t) (declarator_refusal c (look_node l (left - 1) p).value)) → FoldsTo R None (starts_in l left at) u → (c : Context) → refusal_number u ≡ declaration_refusal c (look_node l left at).value
   unfolding declaration_refusal
-  refuses_start d at r e =
-      at_start (λ (m : ℕ). Refusing d at (d - 1) r.holes m r.from 0) r.count
-      (λ c. sum_start refusals l (declarator_refusal c) (d - 1) r.holes r.count r.from 0 _ refl (ap (sum_of refusals (declarator_refusal c)) (list_is l d at 2 r e) ∙ first_sum (declarator_refusal c) (declared_in d at)))
-
-  pub refuses_more : (left at d : ℕ) (h : Bool) (n i p q t x u : ℕ) → i < n → ((c : Context) → x ≡ item_refusal c l h d p) → q ≡ (look_item l (look_node l d) h p).next → u ≡ or_else t x → Refusing left at d h (n - i) p t → Refusing left at d h (n - (i + 1)) q u
-  unfolding item_refusal
-  refuses_more left at d h n i p q t x u z a g v w c = sum_turn refusals l (declarator_refusal c) d h n i p q t x u _ z (a c) g v (w c)
-
-  pub refuses_end : (left at d : ℕ) (h : Bool) (n i p t : ℕ) → n ≤ i → Refusing left at d h (n - i) p t → (c : Context) → t ≡ declaration_refusal c (look_node l left at).value
-  refuses_end left at d h n i p t z w c = sum_done refusals l (declarator_refusal c) d h n i p t _ z (w c)
+  refuses_all left at u R step e c =
+      let r : Run = run_of at (part_at l left at 2) in
+      folds_sum refusals refusal_number (declarator_refusal c) R (left - 1) (λ t p u a. step t p u a c) _ r.holes r.count r.from None u e
+      (sum_start refusals l (declarator_refusal c) (left - 1) r.holes r.count r.from 0 _ refl (ap (sum_of refusals (declarator_refusal c)) (list_is l left at 2 r refl) ∙ first_sum (declarator_refusal c) (declared_in left at)))

@@ -28,11 +28,20 @@ has p = below.has p
 abbrev pub deep : Node → Bool
 deep p = below.below p
 
-pub has_empty : (at : ℕ) → has (node at 0 done) ≡ false
-has_empty at = below.has_blank at ∙ below.has_nothing
+-- what a search asks of a pattern: an object rest below, or one below an array rest
+abbrev pub sought : Bool → Node → Bool
+sought b p = cond b (deep p) (has p)
 
-pub deep_empty : (at : ℕ) → deep (node at 0 done) ≡ false
-deep_empty at = below.below_blank at ∙ below.below_nothing
+pub sought_blank : (b : Bool) → Blank (sought b)
+sought_blank true = below.below_blank
+sought_blank false = below.has_blank
+
+pub sought_nothing : (b : Bool) → sought b nothing ≡ false
+sought_nothing true = below.below_nothing
+sought_nothing false = below.has_nothing
+
+pub sought_empty : (b : Bool) (at : ℕ) → sought b (node at 0 done) ≡ false
+sought_empty b at = sought_blank b at ∙ sought_nothing b
 
 module _ (l : List ℕ) where
   -- ---- whether an item of a list has what F asks
@@ -107,11 +116,8 @@ module _ (l : List ℕ) where
 
   -- ---- the nodes themselves
 
-  pub has_none : (d at : ℕ) → d ≡ 0 → false ≡ has (look_node l d at).value
-  has_none d at z = sym (below.has_blank at ∙ below.has_nothing) ∙ ap has (sym (no_levels l d at z))
-
-  pub deep_none : (d at : ℕ) → d ≡ 0 → false ≡ deep (look_node l d at).value
-  deep_none d at z = sym (below.below_blank at ∙ below.below_nothing) ∙ ap deep (sym (no_levels l d at z))
+  pub sought_none : (f : Bool) (d at : ℕ) → d ≡ 0 → false ≡ sought f (look_node l d at).value
+  sought_none f d at z = sym (sought_empty f at) ∙ ap (sought f) (sym (no_levels l d at z))
 
   module _ (d at k : ℕ) (z : d ≡ 0 → ⊥) (e : k ≡ byte_at l at) where
     abbrev here : Node
@@ -130,43 +136,54 @@ module _ (l : List ℕ) where
     leaf_shape a b c =
         below.is_leaf here (λ w. a (sym (kind_is l d at k z e) ∙ w)) (λ w. b (sym (kind_is l d at k z e) ∙ w)) (λ w. c (sym (kind_is l d at k z e) ∙ w))
 
-    -- an object rest below
-    pub has_rest : (b : Bool) → k ≡ 34 → b ≡ stands 1 here → b ≡ true → true ≡ has here
-    has_rest b t s y = sym (below.has_object here (object_shape t) ∙ ap (λ (x : Bool). x || any (λ q. has (value q)) (items_at_of 0 here)) (sym s ∙ y))
+    -- an object's own rest, which is not asked for below an array rest
+    pub sought_rest : (f b : Bool) → k ≡ 34 → f ≡ false → b ≡ stands 1 here → b ≡ true → true ≡ sought f here
+    sought_rest true b t g s y = cc
+    sought_rest false b t g s y = sym (below.has_object here (object_shape t) ∙ ap (λ (x : Bool). x || any (λ q. has (value q)) (items_at_of 0 here)) (sym s ∙ y))
 
-    pub has_values : (b : Bool) (r : Run) → k ≡ 34 → b ≡ stands 1 here → b ≡ false → r ≡ run_of at (part_at l d at 0) → any (λ q. has (value q)) (look_items l (look_node l (d - 1)) false (r.count - 0) r.from).value ≡ has here
-    has_values b r t s y w =
-        at_start (λ (m : ℕ). any (λ q. has (value q)) (look_items l (look_node l (d - 1)) false m r.from).value ≡ has here) r.count
-        (ap (any (λ q. has (value q))) (object_list l d at r (sym e ∙ t) w)
-        ∙ sym (below.has_object here (object_shape t) ∙ ap (λ (x : Bool). x || any (λ q. has (value q)) (items_at_of 0 here)) (sym s ∙ y)))
+    -- where there is none, or it is not asked for, the values decide
+    bare_values : (f b : Bool) → k ≡ 34 → b ≡ stands 1 here → b ≡ false → any (λ q. sought f (value q)) (items_at_of 0 here) ≡ sought f here
+    bare_values true b t s y = sym (below.below_object here (object_shape t))
+    bare_values false b t s y = sym (below.has_object here (object_shape t) ∙ ap (λ (x : Bool). x || any (λ q. has (value q)) (items_at_of 0 here)) (sym s ∙ y))
 
-    pub has_items : (r : Run) → k ≡ 36 → r ≡ run_of at (part_at l d at 0) → any has (look_items l (look_node l (d - 1)) true (r.count - 0) r.from).value || has (node_at_of 1 here) ≡ has here
-    has_items r t w =
-        at_start (λ (m : ℕ). any has (look_items l (look_node l (d - 1)) true m r.from).value || has (node_at_of 1 here) ≡ has here) r.count
-        (ap (λ (is : Items). any has is || has (node_at_of 1 here)) (array_list l d at r (sym e ∙ t) w) ∙ sym (below.has_array here (array_shape t)))
+    deep_values : (f : Bool) → k ≡ 34 → f ≡ true → any (λ q. sought f (value q)) (items_at_of 0 here) ≡ sought f here
+    deep_values true t g = sym (below.below_object here (object_shape t))
+    deep_values false t g = cc
 
-    pub has_left : (b : Bool) (s : Place) → k ≡ 37 → s ≡ place_of d at (part_at l d at 0) → b ≡ has (node_here l s) → b ≡ has here
-    has_left b s t w a = a ∙ child_is l has below.has_blank d at 0 s w ∙ sym (below.has_default here (default_shape t))
+    module _ (f : Bool) (r : Run) (t : k ≡ 34) (w : r ≡ run_of at (part_at l d at 0)) where
+      abbrev pub Begun : Type 0
+      Begun = any (λ q. sought f (value q)) (look_items l (look_node l (d - 1)) false (r.count - 0) r.from).value ≡ sought f here
 
-    pub has_leaf : (k ≡ 34 → ⊥) → (k ≡ 36 → ⊥) → (k ≡ 37 → ⊥) → false ≡ has here
-    has_leaf a b c = sym (below.has_leaf here (leaf_shape a b c))
+      values_begun : any (λ q. sought f (value q)) (items_at_of 0 here) ≡ sought f here → Begun
+      values_begun a =
+          at_start (λ (m : ℕ). any (λ q. sought f (value q)) (look_items l (look_node l (d - 1)) false m r.from).value ≡ sought f here) r.count
+          (ap (any (λ q. sought f (value q))) (object_list l d at r (sym e ∙ t) w) ∙ a)
 
-    -- an array rest with an object rest below it
-    pub deep_values : (r : Run) → k ≡ 34 → r ≡ run_of at (part_at l d at 0) → any (λ q. deep (value q)) (look_items l (look_node l (d - 1)) false (r.count - 0) r.from).value ≡ deep here
-    deep_values r t w =
-        at_start (λ (m : ℕ). any (λ q. deep (value q)) (look_items l (look_node l (d - 1)) false m r.from).value ≡ deep here) r.count
-        (ap (any (λ q. deep (value q))) (object_list l d at r (sym e ∙ t) w) ∙ sym (below.below_object here (object_shape t)))
+      pub begun_bare : (b : Bool) → b ≡ stands 1 here → b ≡ false → Begun
+      begun_bare b s y = values_begun (bare_values f b t s y)
 
-    pub deep_items : (r : Run) → k ≡ 36 → r ≡ run_of at (part_at l d at 0) → any deep (look_items l (look_node l (d - 1)) true (r.count - 0) r.from).value || has (node_at_of 1 here) ≡ deep here
-    deep_items r t w =
-        at_start (λ (m : ℕ). any deep (look_items l (look_node l (d - 1)) true m r.from).value || has (node_at_of 1 here) ≡ deep here) r.count
-        (ap (λ (is : Items). any deep is || has (node_at_of 1 here)) (array_list l d at r (sym e ∙ t) w) ∙ sym (below.below_array here (array_shape t)))
+      pub begun_deep : f ≡ true → Begun
+      begun_deep g = values_begun (deep_values f t g)
 
-    pub deep_left : (b : Bool) (s : Place) → k ≡ 37 → s ≡ place_of d at (part_at l d at 0) → b ≡ deep (node_here l s) → b ≡ deep here
-    deep_left b s t w a = a ∙ child_is l deep below.below_blank d at 0 s w ∙ sym (below.below_default here (default_shape t))
+    sought_array : (f : Bool) → shape here ≡ array_pattern → any (sought f) (items_at_of 0 here) || has (node_at_of 1 here) ≡ sought f here
+    sought_array true s = sym (below.below_array here s)
+    sought_array false s = sym (below.has_array here s)
 
-    pub deep_leaf : (k ≡ 34 → ⊥) → (k ≡ 36 → ⊥) → (k ≡ 37 → ⊥) → false ≡ deep here
-    deep_leaf a b c = sym (below.below_leaf here (leaf_shape a b c))
+    pub sought_items : (f : Bool) (r : Run) → k ≡ 36 → r ≡ run_of at (part_at l d at 0) → any (sought f) (look_items l (look_node l (d - 1)) true (r.count - 0) r.from).value || has (node_at_of 1 here) ≡ sought f here
+    sought_items f r t w =
+        at_start (λ (m : ℕ). any (sought f) (look_items l (look_node l (d - 1)) true m r.from).value || has (node_at_of 1 here) ≡ sought f here) r.count
+        (ap (λ (is : Items). any (sought f) is || has (node_at_of 1 here)) (array_list l d at r (sym e ∙ t) w) ∙ sought_array f (array_shape t))
+
+    sought_default : (f : Bool) → shape here ≡ default → sought f here ≡ sought f (node_at_of 0 here)
+    sought_default true s = below.below_default here s
+    sought_default false s = below.has_default here s
+
+    pub sought_left : (f b : Bool) (s : Place) → k ≡ 37 → s ≡ place_of d at (part_at l d at 0) → b ≡ sought f (node_here l s) → b ≡ sought f here
+    sought_left f b s t w a = a ∙ child_is l (sought f) (sought_blank f) d at 0 s w ∙ sym (sought_default f (default_shape t))
+
+    pub sought_leaf : (f : Bool) → (k ≡ 34 → ⊥) → (k ≡ 36 → ⊥) → (k ≡ 37 → ⊥) → false ≡ sought f here
+    sought_leaf true a b c = sym (below.below_leaf here (leaf_shape a b c))
+    sought_leaf false a b c = sym (below.has_leaf here (leaf_shape a b c))
 
   -- after the last item: what the array's rest has
   pub items_done : (F : Node → Bool) (d at e n i p : ℕ) (b : Bool) (s : Place) → n ≤ i → s ≡ place_of d at (part_at l d at 1) → b ≡ has (node_here l s) → b ≡ any F (look_items l (look_node l e) true (n - i) p).value || has (node_at_of 1 (look_node l d at).value)

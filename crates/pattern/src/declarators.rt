@@ -1,5 +1,6 @@
 // How many declarators a declaration becomes, and the first refusal that it meets at its keys.
-ghost use Rattle.std.specs.Prelude.{◌≡◌};
+ghost use Rattle.std.specs.Prelude.{◌≡◌, ◌-◌};
+ghost use Rattle.std.specs.List.{FoldsTo};
 ghost use Rattle.tree.specs.Tree.{Node, count};
 ghost use Rattle.tree.specs.Look.{look_node};
 ghost use Rattle.lowering.specs.Parts.{gather, items_at_of};
@@ -7,7 +8,7 @@ ghost use Rattle.lowering.specs.Made.{Context};
 ghost use Rattle.lowering.specs.Declarations.{is_lowered, pattern_declarators, declarators, declaration_refusal};
 ghost use Rattle.pattern.specs.Refusals.{refusal_number};
 ghost use Rattle.pattern.specs.Tally.{limited, tally_values};
-ghost use Rattle.pattern.specs.Declarators.{made, item_count_of, declarator_refusal, item_refusal};
+ghost use Rattle.pattern.specs.Declarators.{made, declarator_refusal, starts_in};
 
 use crate::tally::Tally;
 use crate::{keys, parts, rests, search, source, tally};
@@ -71,32 +72,44 @@ fn becomes(tree: &[u8], left: usize, at: usize) -> usize
     1
 }
 
-// The same of an item of a list; a hole is none.
-fn item_becomes(tree: &[u8], holes: bool, left: usize, at: usize) -> usize
-    ensures { (c : Context) → result ≡ item_count_of c tree.now holes left at }
+// Goes over the declarators of a declaration, left to right; `join` adds one, with its levels and place, to what came before.
+fn joined<T, F: Fn(T, usize, usize) -> T>(
+    tree: &[u8],
+    left: usize,
+    at: usize,
+    none: T,
+    join: F,
+) -> T
+    requires { F.IsAlwaysCallable join }
+    ensures { FoldsTo (λ t p u. F.post join t (left - 1) p u) none (starts_in tree.now left at) result }
 {
-    if holes && bytes::peek(tree, at) == 0 {
-        return 0;
+    if left == 0 {
+        return none;
     }
-    becomes(tree, left, at)
+    let below = left - 1;
+    let run = parts::list(tree, left, at, 2);
+    let mut p = run.from;
+    let mut t = none;
+    for _ in 0..run.count {
+        if !run.holes || bytes::peek(tree, p) != 0 {
+            t = join(t, below, p);
+        }
+        p = skip::skip_item(tree, run.holes, below, p);
+    }
+    t
 }
 
 // How many declarators a declaration becomes.
 pub fn declaration_becomes(tree: &[u8], left: usize, at: usize) -> usize
     ensures { (c : Context) → result ≡ limited (count (gather (declarators c) (items_at_of 2 (look_node tree.now left at).value))) }
 {
-    if left == 0 {
-        return 0;
-    }
-    let below = left - 1;
-    let run = parts::list(tree, left, at, 2);
-    let mut p = run.from;
-    let mut t = 0;
-    for _ in 0..run.count {
-        t = tally::plus(t, item_becomes(tree, run.holes, below, p));
-        p = skip::skip_item(tree, run.holes, below, p);
-    }
-    t
+    joined(
+        tree,
+        left,
+        at,
+        0,
+        |t, below, p| tally::plus(t, becomes(tree, below, p)),
+    )
 }
 
 // The first refusal at the keys of the objects whose rest a declarator lowers.
@@ -110,30 +123,15 @@ fn refusal(tree: &[u8], left: usize, at: usize) -> Option<tally::Refusal>
     None
 }
 
-// The same of an item of a list; a hole has none.
-fn item_refusal(tree: &[u8], holes: bool, left: usize, at: usize) -> Option<tally::Refusal>
-    ensures { (c : Context) → refusal_number result ≡ item_refusal c tree.now holes left at }
-{
-    if holes && bytes::peek(tree, at) == 0 {
-        return None;
-    }
-    refusal(tree, left, at)
-}
-
 // The same of a declaration.
 pub fn declaration_refusal(tree: &[u8], left: usize, at: usize) -> Option<tally::Refusal>
     ensures { (c : Context) → refusal_number result ≡ declaration_refusal c (look_node tree.now left at).value }
 {
-    if left == 0 {
-        return None;
-    }
-    let below = left - 1;
-    let run = parts::list(tree, left, at, 2);
-    let mut p = run.from;
-    let mut t = None;
-    for _ in 0..run.count {
-        t = t.or(item_refusal(tree, run.holes, below, p));
-        p = skip::skip_item(tree, run.holes, below, p);
-    }
-    t
+    joined(
+        tree,
+        left,
+        at,
+        None,
+        |t, below, p| t.or(refusal(tree, below, p)),
+    )
 }

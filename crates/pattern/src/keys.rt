@@ -174,9 +174,7 @@ fn key_counts(k: Key) -> Tally
         ..Tally::default()
     };
     match k {
-        Key::Name { .. } => one,
-        Key::Literal { .. } => one,
-        Key::Number { .. } => one,
+        Key::Name { .. } | Key::Literal { .. } | Key::Number { .. } | Key::Template => one,
         Key::OtherForm { .. } => Tally {
             refusal: Some(tally::Refusal::OtherForm),
             ..one
@@ -185,7 +183,6 @@ fn key_counts(k: Key) -> Tally
             refusal: Some(tally::Refusal::NoForm),
             ..one
         },
-        Key::Template => one,
         Key::Private => Tally::default(),
         Key::Again => Tally { computed: 1, ..one },
         Key::Other => Tally {

@@ -20,7 +20,7 @@ fn moved(tree: &[u8], left: usize, at: usize) -> usize
     let below = left - 1;
     let kind = bytes::peek(tree, at);
     match kind {
-        kinds::OBJECT_PATTERN => 1,
+        kinds::OBJECT_PATTERN | kinds::DEFAULT => 1,
         kinds::ARRAY_PATTERN => {
             let run = parts::list(tree, left, at, 0);
             let mut p = run.from;
@@ -33,7 +33,6 @@ fn moved(tree: &[u8], left: usize, at: usize) -> usize
             let rest = parts::child(tree, left, at, 1);
             tally::plus(t, moved(tree, rest.left, rest.at))
         }
-        kinds::DEFAULT => 1,
         _ => 0,
     }
 }

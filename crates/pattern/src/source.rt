@@ -59,11 +59,7 @@ pub fn is_name(tree: &[u8], left: usize, at: usize) -> bool
         return false;
     }
     let kind = bytes::peek(tree, at);
-    match kind {
-        kinds::REFERENCE => true,
-        kinds::TEMPORARY => true,
-        _ => false,
-    }
+    matches!(kind, kinds::REFERENCE | kinds::TEMPORARY)
 }
 
 impl ReferenceBuilder {

@@ -1,3 +1,4 @@
+use native.Mathlib.Omega.{arith}
 use Rattle.pattern.proofs.DeclaratorsCounted as law
 use Rattle.pattern.proofs.declarators.pattern_declarators.Goals as goal
 
@@ -17,4 +18,4 @@ pub returns-in-36 : goal.returns-in-36
 returns-in-36 c = law.array_one _ _ _ _ c.if-left-eq0.false c.peek-kind.ensures.value _ _ _ c.in-36.is c.rests-in-36.ensures c.made.ensures c.plus-in-36.ensures
 
 pub returns-in_default : goal.returns-in_default
-returns-in_default c = law.other_none _ _ _ _ c.if-left-eq0.false c.peek-kind.ensures.value c.in_default.in_default-own.rest.0.1 c.in_default.in_default-own.rest.1
+returns-in_default c = law.other_none _ _ _ _ c.if-left-eq0.false c.peek-kind.ensures.value (omega arith) (omega arith)

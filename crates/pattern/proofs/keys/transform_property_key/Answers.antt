@@ -1,3 +1,4 @@
+use native.Mathlib.Omega.{arith}
 use Rattle.pattern.proofs.KeyCases as law
 use Rattle.pattern.proofs.Fields as fields
 use Rattle.pattern.proofs.keys.transform_property_key.Goals as goal
@@ -33,4 +34,4 @@ pub returns-in-39 : goal.returns-in-39
 returns-in-39 c = law.becomes _ _ _ _ (law.key_private _ _ _ _ c.if-left-eq0.false c.peek-kind.ensures.value c.in-39.is)
 
 pub returns-in_default : goal.returns-in_default
-returns-in_default c = law.becomes _ _ _ _ (law.key_other _ _ _ _ c.if-left-eq0.false c.peek-kind.ensures.value c.in_default.in_default-own.rest.0.0.0.0.0.1 c.in_default.in_default-own.rest.0.0.0.0.1 c.in_default.in_default-own.rest.0.0.0.1 c.in_default.in_default-own.rest.0.0.1 c.in_default.in_default-own.rest.0.1 c.in_default.in_default-own.rest.1)
+returns-in_default c = law.becomes _ _ _ _ (law.key_other _ _ _ _ c.if-left-eq0.false c.peek-kind.ensures.value (omega arith) (omega arith) (omega arith) (omega arith) (omega arith) (omega arith))

@@ -1,3 +1,4 @@
+use mathlib.Core.Logic.◌⊎◌.{inl, inr}
 use mathlib.Core.Bool.{true}
 use native.Mathlib.Omega.{arith}
 use Rattle.pattern.proofs.MovesCounted as law
@@ -20,13 +21,13 @@ pub moved-requires-in-36 : goal.moved-requires-in-36
 moved-requires-in-36 t c = (let h = places.child_falls _ _ _ 1 _ c.if-left-eq0.false c.child-rest.ensures in omega arith, tt)
 
 pub returns-in-34 : goal.returns-in-34
-returns-in-34 t c = law.moved_object _ _ _ _ c.if-left-eq0.false c.peek-kind.ensures.value c.in-34.is
+returns-in-34 t c = elim c.in-34.is [
+  | inl e ↦ law.moved_object _ _ _ _ c.if-left-eq0.false c.peek-kind.ensures.value e
+  | inr e ↦ law.moved_default _ _ _ _ c.if-left-eq0.false c.peek-kind.ensures.value e
+]
 
 pub returns-after-loop : goal.returns-after-loop
 returns-after-loop t c = law.array_end _ _ _ _ c.if-left-eq0.false c.peek-kind.ensures.value _ _ _ _ _ _ _ _ c.in-36.is c.loop-test.false c.loop.invariant c.child-rest.ensures c.moved-in-36.ensures c.plus.ensures
 
-pub returns-in-37 : goal.returns-in-37
-returns-in-37 t c = law.moved_default _ _ _ _ c.if-left-eq0.false c.peek-kind.ensures.value c.in-37.is
-
 pub returns-in_default : goal.returns-in_default
-returns-in_default t c = law.moved_leaf _ _ _ _ c.if-left-eq0.false c.peek-kind.ensures.value c.in_default.in_default-own.rest.0.0.1 c.in_default.in_default-own.rest.0.1 c.in_default.in_default-own.rest.1
+returns-in_default t c = law.moved_leaf _ _ _ _ c.if-left-eq0.false c.peek-kind.ensures.value (grind arith) (grind arith) (grind arith)

@@ -1,3 +1,4 @@
+use native.Mathlib.Omega.{arith}
 use Rattle.pattern.proofs.Fields as law
 use Rattle.pattern.proofs.parts.held.Goals as goal
 
@@ -17,4 +18,4 @@ pub returns-in-5 : goal.returns-in-5
 returns-in-5 c = law.held_text _ _ _ _ c.text.ensures c.in-5.is
 
 pub returns-in_default : goal.returns-in_default
-returns-in_default c = law.held_number _ _ _ c.in_default.in_default-own.rest
+returns-in_default c = law.held_number _ _ _ (omega arith)

@@ -41,4 +41,4 @@ pub returns-in-37 : goal.returns-in-37
 returns-in-37 t c = λ k. law.default_left _ _ _ _ c.if-left-eq0.false c.peek-kind.ensures.value k _ _ c.in-37.is c.child-l.ensures c.rests-in-37.ensures
 
 pub returns-in_default : goal.returns-in_default
-returns-in_default t c = λ k. law.leaf_none _ _ _ _ c.if-left-eq0.false c.peek-kind.ensures.value k _ c.in_default.in_default-own.rest.0.0.1 c.in_default.in_default-own.rest.0.1 c.in_default.in_default-own.rest.1 (tally_empty _ c.default-in_default.ensures)
+returns-in_default t c = λ k. law.leaf_none _ _ _ _ c.if-left-eq0.false c.peek-kind.ensures.value k _ (omega arith) (omega arith) (omega arith) (tally_empty _ c.default-in_default.ensures)
