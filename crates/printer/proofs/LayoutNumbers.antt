@@ -7,7 +7,7 @@ use Prim.Native.Nat.{ℕ, ◌+◌, ◌-◌, ◌*◌, ◌/◌, ◌%◌, ◌<◌, 
 use native.Mathlib.Omega.{arith}
 use native.Mathlib.Decide.{dec_lt}
 use lib.Dec.{T, eqb, eqb→eq}
-use lib.ListN.{length, get_or, get_or-eq_default}
+use lib.ListN.{get_or, get_or-eq_default}
 use borrow.Author.Tests.{le-ltb, lt-ltb, ne_eqb}
 use Rattle.tree.specs.Grammar.{among}
 use Rattle.tree.proofs.Table.{both, both_left, both_right, every, at, below, below_at}
@@ -54,14 +54,8 @@ low_at i = elim (dec_lt i 128) [
   | no h ↦ get_or-eq_default word_numbers 0 {n = i} (omega arith) ∙ rw (word_none i (omega arith))
 ]
 
-pub past_end : (l : List ℕ) (i : ℕ) → length l ≤ i → 0 ≡ get_or l i 0
-past_end l i h = sym (get_or-eq_default l 0 {n = i} h)
-
 pub low_in : (l : List ℕ) (i : ℕ) → l ≡ word_numbers → get_or l i 0 ≡ low_of i
 low_in l i e = rw e (low_at i)
-
-pub low_past : (l : List ℕ) (i : ℕ) → length l ≤ i → l ≡ word_numbers → 0 ≡ low_of i
-low_past l i h e = past_end l i h ∙ low_in l i e
 
 abbrev pub middles : List ℕ
 middles = 86 ∷ 84 ∷ 81 ∷ 49 ∷ 48 ∷ 47 ∷ 23 ∷ 14 ∷ 13 ∷ 12 ∷ 10 ∷ 7 ∷ 5 ∷ []
@@ -192,9 +186,6 @@ slotted k j h g =
 
 pub slot_at : (l : List ℕ) (k j r : ℕ) → r ≡ get_or l (8 * k + j) 0 → l ≡ slot_numbers → k < 64 → j < 8 → Slotted k j r
 slot_at l k j r q e h g = rw (q, e) (slotted k j h g)
-
-pub slot_past : (l : List ℕ) (k j : ℕ) → length l ≤ 8 * k + j → l ≡ slot_numbers → k < 64 → j < 8 → Slotted k j 0
-slot_past l k j n e h g = slot_at l k j 0 (past_end l (8 * k + j) n) e h g
 
 -- ---- chosen words
 

@@ -3,9 +3,8 @@
 use mathlib.Core.Path.{◌≡◌, refl, sym, ap, ◌∙◌}
 use mathlib.Core.Bool.{Bool, true, false, cond, not, ◌&&◌}
 use mathlib.Core.List.{List, [], ◌∷◌}
-use Prim.Native.Nat.{ℕ, suc, ◌+◌, ◌-◌, ◌*◌, ◌/◌, ◌%◌, ◌^◌, ◌<◌, ◌≤◌}
+use Prim.Native.Nat.{ℕ, suc, ◌+◌, ◌-◌, ◌*◌, ◌/◌, ◌%◌, ◌<◌, ◌≤◌}
 use native.Mathlib.Omega.{arith}
-use native.Mathlib.Nat.{zero-div}
 use lib.Dec.{T, eqb, eqb→eq}
 use native.Mathlib.Decide.{dec_lt}
 use lib.ListN.{length, get_or, set, take, drop, get_or-eq_default}
@@ -36,10 +35,6 @@ table_rule b h = eqb→eq (entry_in_of name_bytes b) (bits_of b) (below_at entry
 pub table_generated : table_from 64 0 ≡ name_bytes
 unfolding table_from table_byte name_bytes bits_of may_begin may_follow
 table_generated = refl
-
-pub entry_none : (t : List ℕ) (b : ℕ) → length t ≤ b / 4 → 0 ≡ entry_in_of t b
-unfolding entry_in_of
-entry_none t b h = rw (get_or-eq_default t 0 {n = b / 4} h, zero-div (2 ^ (2 * (b % 4))))
 
 bits_first : (a c : Bool) → eqb (cond a 3 (cond c 2 0) % 2) 1 ≡ a
 bits_first true c = refl

@@ -6,6 +6,7 @@ ghost use Rattle.std.specs.Prelude.{◌≡◌, cond, ◌+◌, ◌*◌, ◌/◌, 
 ghost use Rattle.printer.specs.Met.{number_of, Leafed};
 
 use rewritten::task::{BYTE_AND_TEXTS, ONE_TEXT};
+use tree::kinds;
 
 pub(crate) const NODE: usize = 1;
 
@@ -44,13 +45,13 @@ pub(crate) fn leaf_code(kind: usize, map: usize, what: usize) -> Option<usize>
 {
     if what == ONE_TEXT && map == 1 {
         return match kind {
-            18 => Some(REFERENCE),
-            19 => Some(BINDING),
-            38 => Some(STATIC_KEY),
+            kinds::REFERENCE => Some(REFERENCE),
+            kinds::BINDING => Some(BINDING),
+            kinds::STATIC_KEY => Some(STATIC_KEY),
             _ => None,
         };
     }
-    if what == BYTE_AND_TEXTS && kind == 22 && map == 7 {
+    if what == BYTE_AND_TEXTS && kind == kinds::LITERAL && map == 7 {
         Some(LITERAL)
     } else {
         None

@@ -3,6 +3,8 @@ ghost use Rattle.std.specs.Prelude.{◌≡◌, ◌≤◌};
 ghost use Rattle.printer.specs.Places.{lowest, without, field_in, noting, past, item_seen, listed, unlisted};
 ghost use Rattle.printer.specs.Stacks.{frame_in, next_in, packed_frame};
 
+use tree::kinds;
+
 // The node's kind, bit map and byte; the word that stands behind it; what was noted of it; the bits of its fields still
 // to come; and 1 if this is a list of the node.
 #[derive(Clone, Copy)]
@@ -67,7 +69,7 @@ fn listed(f: Frame) -> Frame
 fn unlisted(f: Frame, n: usize) -> Frame
     ensures { result ≡ unlisted f n }
 {
-    if f.kind == 4 {
+    if f.kind == kinds::DECLARATION {
         return noting(f, f.seen);
     }
     if n == 0 {

@@ -6,6 +6,7 @@ ghost use Rattle.printer.specs.Rows.{sort_numbers, slot_numbers, Sorted, Slotted
 ghost use Rattle.printer.specs.Stacks.{frame_in};
 
 use crate::{frame, numbers};
+use tree::kinds;
 
 // The manners of fields that print more than their words: numbers, since the table of fields holds them.
 pub(crate) const LINES: usize = 1;
@@ -81,7 +82,11 @@ pub(crate) fn slots() -> [u16; 512]
 pub(crate) fn sort(sorts: &[u32], kind: usize, note: usize) -> usize
     ensures { sorts.now ≡ sort_numbers → kind < 64 → Sorted kind note result }
 {
-    let entry = if kind == 14 { 64 + note.min(3) } else { kind };
+    let entry = if kind == kinds::FUNCTION {
+        64 + note.min(3)
+    } else {
+        kind
+    };
     numbers::entry_at(sorts, entry)
 }
 

@@ -11,6 +11,7 @@ use crate::layout::{
     VALUED,
 };
 use crate::{frame, layout};
+use tree::kinds;
 
 // What leads the next field, and 128 times its manner; right if the table is lent.
 pub(crate) fn slot_in(slots: &[u16], v: usize) -> usize
@@ -31,7 +32,7 @@ pub(crate) fn is_statement(sort: usize) -> bool
 pub(crate) fn method(p: usize, m: usize, kind: usize, map: usize) -> usize
     ensures { m ≡ manner_in (frame_in p) → result ≡ in_method_form (frame_in p) kind map }
 {
-    if m == VALUED && kind == 14 && map / 4 % 2 == 0 && 3 < frame::note_in(p) {
+    if m == VALUED && kind == kinds::FUNCTION && map / 4 % 2 == 0 && 3 < frame::note_in(p) {
         1
     } else {
         0
@@ -78,7 +79,7 @@ pub(crate) fn joining(m: usize, kind: usize, statement: bool) -> usize
     match m {
         FILLED => 74,
         CALLED => { if statement { 52 } else { 0 } }
-        LOOPED => { if kind == 2 { 71 } else { 52 } }
+        LOOPED => { if kind == kinds::BLOCK { 71 } else { 52 } }
         _ => 0,
     }
 }
@@ -129,7 +130,7 @@ pub(crate) fn plain_following(m: usize, wrapped: bool) -> usize
 pub(crate) fn is_plain(m: usize, kind: usize) -> bool
     ensures { result ≡ true → Plain m kind }
 {
-    kind != 14 && (m < 5 || 10 < m)
+    kind != kinds::FUNCTION && (m < 5 || 10 < m)
 }
 
 #[tactic(auto, unfolding(crate::specs::Places::noted_at))]
@@ -137,7 +138,7 @@ pub(crate) fn noted_at(m: usize, kind: usize) -> usize
     ensures { ((p : ℕ) → m ≡ manner_in (frame_in p) → result ≡ noted_at (frame_in p) kind) × (result ≤ 2) }
 {
     match m {
-        HEADED => { if kind == 4 { 1 } else { 0 } }
+        HEADED => { if kind == kinds::DECLARATION { 1 } else { 0 } }
         QUOTED => 2,
         _ => 0,
     }
@@ -148,7 +149,10 @@ pub(crate) fn noted_at(m: usize, kind: usize) -> usize
 pub(crate) fn is_computed(kind: usize, note: usize) -> bool
     ensures { computed kind note ≡ cond result 67 0 }
 {
-    note % 2 == 1 && (kind == 25 || kind == 35 || kind == 41)
+    note % 2 == 1
+        && (kind == kinds::PROPERTY
+            || kind == kinds::PATTERN_PROPERTY
+            || kind == kinds::CLASS_MEMBER)
 }
 
 pub(crate) fn tail_word(sorts: &[u32], f: usize) -> usize

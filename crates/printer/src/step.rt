@@ -12,7 +12,7 @@ ghost use Rattle.printer.specs.Turns.{state_in, moved, Ready, count_by, Kept, Tu
 
 use crate::print::State;
 use crate::{entries, frame, layout, numbers, out, places, print, texts};
-use tree::bytes;
+use tree::{bytes, kinds};
 
 // Another frame, and more is written.
 fn moved(s: State, top: usize, spot: usize) -> State
@@ -332,7 +332,7 @@ fn quiet(s: State) -> State
 fn number_bytes(text: &mut [u8], spot: usize, f: usize, n: usize) -> usize
     ensures { buffer_in text.new result ≡ write (buffer_in text.old spot) (number_bytes (frame_in f) n) }
 {
-    if frame::kind_in(f) == 20 {
+    if frame::kind_in(f) == kinds::TEMPORARY {
         return out::decimal(text, spot, n);
     }
     spot

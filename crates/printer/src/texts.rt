@@ -8,7 +8,7 @@ ghost use Rattle.printer.specs.Rows.{slot_numbers, word_numbers};
 ghost use Rattle.printer.specs.Stacks.{frame_in, text_at_of, write, buffer_in, is_empty};
 
 use crate::{entries, frame, layout, names, out, places};
-use tree::bytes;
+use tree::{bytes, kinds};
 
 // No byte is there.
 fn is_empty(tree: &[u8], at: usize, n: usize) -> bool
@@ -99,13 +99,13 @@ fn text_words(
     ensures { slots.now ≡ slot_numbers → words.now ≡ word_numbers → buffer_in text.new result ≡ write (buffer_in text.old spot) (text_bytes (frame_in f) (take n (drop at tree.now))) }
 {
     let kind = frame::kind_in(f);
-    if kind == 22 {
+    if kind == kinds::LITERAL {
         return literal(tree, at, n, text, spot, f);
     }
-    if kind == 30 {
+    if kind == kinds::MEMBER {
         return member(tree, at, n, text, spot);
     }
-    if kind == 38 {
+    if kind == kinds::STATIC_KEY {
         return key(tree, at, n, text, spot);
     }
     let s = lead(slots, words, text, spot, f);
@@ -138,7 +138,7 @@ pub(crate) fn spelled(tree: &[u8], at: usize, n: usize, f: usize) -> usize
     if is_empty(tree, at, n) {
         return frame::seen_in(f);
     }
-    if frame::kind_in(f) == 22 && frame::seen_in(f) == 0 {
+    if frame::kind_in(f) == kinds::LITERAL && frame::seen_in(f) == 0 {
         1
     } else {
         frame::seen_in(f)
@@ -150,7 +150,7 @@ pub(crate) fn spelled(tree: &[u8], at: usize, n: usize, f: usize) -> usize
 pub(crate) fn is_quasi(f: usize) -> bool
     ensures { result ≡ is_quasi (frame_in f) }
 {
-    frame::kind_in(f) == 22 && frame::seen_in(f) == 2 && frame::field_in(f) == 1
+    frame::kind_in(f) == kinds::LITERAL && frame::seen_in(f) == 2 && frame::field_in(f) == 1
 }
 
 // The text of a leaf by its code: that of a StaticKey as its name stands there; a Literal's spelling, or its form in quotes; else

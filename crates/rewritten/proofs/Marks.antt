@@ -4,7 +4,7 @@ use mathlib.Core.Path.{◌≡◌, refl, sym, ap, ◌∙◌}
 use mathlib.Core.Bool.{Bool, true, false, cond, not, ◌||◌}
 use mathlib.Core.List.{List, [], ◌∷◌, ◌++◌, append-nil}
 use mathlib.Core.Option.{Option, some}
-use Prim.Native.Nat.{ℕ, zero, suc, ◌-◌, ◌<◌, ◌≤◌}
+use Prim.Native.Nat.{ℕ, zero, suc, ◌<◌, ◌≤◌}
 use native.Mathlib.Omega.{arith}
 use native.Mathlib.Nat.{le_of_suc-le-suc}
 use native.Mathlib.Decide.{dec_lt}
@@ -248,12 +248,6 @@ pub set_past : (l : List ℕ) (i v : ℕ) → length l ≤ i → l ≡ set l i v
 set_past [] i v h = refl
 set_past (x ∷ xs) zero v h = absurd (omega arith)
 set_past (x ∷ xs) (suc i) v h = ap (λ (l : List ℕ). x ∷ l) (set_past xs i v (le_of_suc-le-suc h))
-
-pub cleared_one : (l : List ℕ) (i : ℕ) → 0 < i → i ≤ length l → ((x : ℕ) → i ≤ x → get_or l x 0 ≡ 0) → (x : ℕ) → i - 1 ≤ x → get_or (set l (i - 1) 0) x 0 ≡ 0
-cleared_one l i z h c x le = by_same x (i - 1) (λ e. rw e (get_or-set_same l (i - 1) 0 0 (omega arith))) (λ d. get_or-set_other l (i - 1) x 0 0 d ∙ c x (far x d le))
-  where
-    far : (y : ℕ) → (y ≡ i - 1 → ⊥) → i - 1 ≤ y → i ≤ y
-    far y d g = omega arith
 
 -- ---- an event that is no mark
 

@@ -3,7 +3,7 @@ use mathlib.Core.Path.{refl, sym, ap, ◌∙◌}
 use native.Mathlib.Omega.{arith}
 use Prim.Native.Nat.{ℕ, ◌%◌}
 use lib.ListN.{get_or}
-use Rattle.printer.specs.Names.{name_bytes, entry_in_of}
+use Rattle.printer.specs.Names.{name_bytes}
 use Rattle.printer.proofs.names.bare.Goals as goal
 use Rattle.printer.proofs.names.bare.Goals.{else-at-end-via-then-at-end+else-entry-eq1, else-at-end-via-else-at-end}
 
