@@ -151,7 +151,7 @@ pub catch_clause-returns-then-is_moved : goal.catch_clause-returns-then-is_moved
 catch_clause-returns-then-is_moved t c = looping.catch_moves _ _ _ _ _ _ _ _ _ _ _ _ _ _ _ _ c.less-left.ensures c.step-q.ensures c.has_first.ensures c.if-has_first.true c.is_moved.ensures c.if-is_moved.true c.scoped-d.ensures.0 c.scoped-d.ensures.1 c.moves_make.ensures.0 c.copy-u.ensures.1 c.skip.ensures c.to.ensures.1 (c.to.ensures.0 _ _ _) (c.moves_make.ensures.1 _ _) (runs_does (c.copy-u.ensures.0 _ _)) (told.items_own _ _ _ _ _ _ _ _ _ _ _ told.untold_binding c.turns-u.ensures) c.block_body.ensures
 
 pub catch_clause-returns : goal.catch_clause-returns
-catch_clause-returns t c = (elim c.else-has_first.branch [ catch_clause-else-has_first-via-then-has_first+else-is_moved w ↦ looping.catch_keeps _ _ _ _ _ _ _ _ _ c.less-left.ensures c.step-q.ensures w.has_first.ensures w.if-has_first.true w.is_moved.ensures w.if-is_moved.false c.plain.ensures | catch_clause-else-has_first-via-else-has_first w ↦ looping.catch_stays _ _ _ _ _ _ c.has_first.ensures w.if-has_first.false c.plain.ensures ])
+catch_clause-returns t c = (elim c.else-has_first.branch [ catch_clause-else-has_first-via-then-has_first+else-is_moved w ↦ looping.catch_keeps _ _ _ _ _ _ _ _ _ c.less-left.ensures c.step-q.ensures c.has_first.ensures w.if-has_first.true w.is_moved.ensures w.if-is_moved.false c.plain.ensures | catch_clause-else-has_first-via-else-has_first w ↦ looping.catch_stays _ _ _ _ _ _ c.has_first.ensures w.if-has_first.false c.plain.ensures ])
 
 pub deep_array-returns-then-c-eq0 : goal.deep_array-returns-then-c-eq0
 deep_array-returns-then-c-eq0 t c = λ k good suit. good_none _ _ _ c.if-c-eq0.true good

@@ -1,4 +1,4 @@
-use Prim.Native.Nat.{ℕ, ◌<◌, ◌≤◌, ◌+◌, ◌-◌, ◌*◌}
+use Prim.Native.Nat.{ℕ, ◌<◌, ◌+◌, ◌-◌, ◌*◌}
 use lib.ListN.{length}
 use mathlib.Core.Bool.{false}
 use mathlib.Core.Path.{◌≡◌}
@@ -31,7 +31,7 @@ abbrev pub invariant-items-loop : goal.invariant-items-loop
 invariant-items-loop l = (length l.out ≡ length l.initial.out) × (length l.list ≡ length l.initial.list) × (length l.work ≡ length l.initial.work) × ((look_items l.t (look_node l.t l.c.left) l.holes (l.count - l.counter) l.v.at).next ≡ (look_items l.t (look_node l.t l.c.left) l.holes l.count l.initial.v.at).next) × (GoodItems l.t (look_node l.t l.c.left) (Good l.t l.c.left) l.l l.holes l.count l.initial.v.at → GoodItems l.t (look_node l.t l.c.left) (Good l.t l.c.left) l.l l.holes (l.count - l.counter) l.v.at × law.Onto (going_of l.initial.out l.initial.list l.initial.work l.initial.v) (going_of l.out l.list l.work l.v) (emits_items l.l (place_of l.c) (look_items l.t (look_node l.t l.c.left) l.holes (l.count - l.counter) l.v.at).value) (emits_items l.l (place_of l.c) (look_items l.t (look_node l.t l.c.left) l.holes l.count l.initial.v.at).value))
 
 abbrev pub invariant-properties-loop-before : goal.invariant-properties-loop-before
-invariant-properties-loop-before l = (length l.out ≡ length l.initial.out) × (length l.list ≡ length l.initial.list) × (length l.work ≡ length l.initial.work) × ((look_items l.t (look_node l.t l.c.left) false (l.count - l.before) l.v.at).next ≡ (look_items l.t (look_node l.t l.c.left) false l.count l.initial.v.at).next) × (l.count < 65536 → GoodItems l.t (look_node l.t l.c.left) (Good l.t l.c.left) false false l.count l.initial.v.at → GoodItems l.t (look_node l.t l.c.left) (Good l.t l.c.left) false false (l.count - l.before) l.v.at × law.Onto (going_of l.initial.out l.initial.list l.initial.work l.initial.v) (going_of l.out l.list l.work l.v) (literals.parts (place_of l.c) (look_items l.t (look_node l.t l.c.left) false (l.count - l.before) l.v.at).value) (literals.parts (place_of l.c) (look_items l.t (look_node l.t l.c.left) false l.count l.initial.v.at).value)) × ((l.count - l.before) ≤ l.count)
+invariant-properties-loop-before l = (length l.out ≡ length l.initial.out) × (length l.list ≡ length l.initial.list) × (length l.work ≡ length l.initial.work) × ((look_items l.t (look_node l.t l.c.left) false (l.count - l.before) l.v.at).next ≡ (look_items l.t (look_node l.t l.c.left) false l.count l.initial.v.at).next) × (l.count < 65536 → GoodItems l.t (look_node l.t l.c.left) (Good l.t l.c.left) false false l.count l.initial.v.at → GoodItems l.t (look_node l.t l.c.left) (Good l.t l.c.left) false false (l.count - l.before) l.v.at × law.Onto (going_of l.initial.out l.initial.list l.initial.work l.initial.v) (going_of l.out l.list l.work l.v) (literals.parts (place_of l.c) (look_items l.t (look_node l.t l.c.left) false (l.count - l.before) l.v.at).value) (literals.parts (place_of l.c) (look_items l.t (look_node l.t l.c.left) false l.count l.initial.v.at).value))
 
 abbrev pub invariant-turns-loop : goal.invariant-turns-loop
 invariant-turns-loop l = (length l.out ≡ length l.initial.out) × (length l.list ≡ length l.initial.list) × (length l.work ≡ length l.initial.work) × (GoodItems l.t (look_node l.t l.c.left) (Good l.t l.c.left) false l.holes l.count l.initial.v.at → AllSuit l.mode (look_items l.t (look_node l.t l.c.left) l.holes l.count l.initial.v.at).value → turning.Along l.t l.mode (told_place l.mode l.root l.c) l.c.left l.holes l.count l.initial.v.at (l.count - l.counter) l.v.at (going_of l.initial.out l.initial.list l.initial.work l.initial.v) (going_of l.out l.list l.work l.v))
