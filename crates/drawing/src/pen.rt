@@ -1,5 +1,5 @@
 // Where a drawing stands, and bytes written at a position. What is past the end is not written, and is counted up to one byte.
-ghost use Rattle.std.specs.Prelude.{◌≡◌, length, replicate, slice_set};
+ghost use Rattle.std.specs.Prelude.{◌≡◌, length, slice_set};
 ghost use Rattle.drawing.specs.Pen.{next, put, reach};
 ghost use Rattle.tree.specs.Tree.{wide_bytes};
 
@@ -31,11 +31,4 @@ pub fn put_wide(out: &mut [u8], at: usize, n: u16) -> usize
 {
     let high = put(out, at, (n % 256) as u8);
     put(out, high, (n / 256) as u8)
-}
-
-// Every byte 0.
-pub fn clear(s: &mut [u8])
-    ensures { s.new ≡ replicate (length s.old) 0 }
-{
-    s.fill(0);
 }

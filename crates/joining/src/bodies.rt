@@ -9,10 +9,15 @@ ghost use Rattle.rewritten.specs.declared.step.Event.TheVariants.{Opens, Mark};
 use crate::table;
 use rewritten::step::Cursor;
 use rewritten::{look, next, seen};
-use tree::bytes;
+use tree::{bytes, kinds};
 
-// Program, Block, FunctionBody, StaticBlock, Case.
-const CONTAINERS: [usize; 5] = [1, 2, 16, 42, 44];
+const CONTAINERS: [usize; 5] = [
+    kinds::PROGRAM,
+    kinds::BLOCK,
+    kinds::FUNCTION_BODY,
+    kinds::STATIC_BLOCK,
+    kinds::CASE,
+];
 
 fn is_container(kind: usize) -> bool
     ensures { result ≡ is_container kind }

@@ -6,7 +6,6 @@ ghost use Rattle.joining.specs.Files.{Lent};
 use crate::search::Filed;
 use crate::write::Source;
 use crate::{Joined, Refusal, bodies, entries, settle};
-use drawing::pen;
 
 // The length of the joined tree. Right if 16,384 frames, 65,536 bytes for marks and a place for each byte are lent.
 fn joined(
@@ -40,7 +39,7 @@ fn joined(
     if !settle::settle(tree, list, &filed, ends, more, held) {
         return Err(Refusal::NotFound);
     }
-    pen::clear(out);
+    out.fill(0);
     let source = Source {
         tree,
         list,
@@ -88,7 +87,7 @@ pub fn join(tree: &[u8], list: &[u8], out: &mut [u8]) -> Joined
             tree_len,
         },
         Err(refusal) => {
-            pen::clear(out);
+            out.fill(0);
             Joined::from(refusal)
         }
     }

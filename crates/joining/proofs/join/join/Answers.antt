@@ -20,4 +20,4 @@ returns-in-Err c = law.told_refusal _ _ _ _ _ (c.joined-told.ensures (record {
   lists = omega arith;
   lasts = omega arith;
   firsts = omega arith;
-}) (omega arith) (omega arith) (omega arith)) c.joined-told.auto.out _ c.in-Err.is _ _ _ c.from.ensures c.clear.ensures
+}) (omega arith) (omega arith) (omega arith)) c.joined-told.auto.out _ c.in-Err.is _ _ _ c.from.ensures (c.fill.ensures.after (λ y e. e))
