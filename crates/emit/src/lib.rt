@@ -52,8 +52,8 @@ use walk::hand::{
 };
 use walk::literal::{has_first, has_spread, is_spread, opening, pending, run_of};
 use walk::look::{
-    KeyClass, cell, enters_arrays, first_bit, has_second, hoisted, is_other, item_mode,
-    key_sort, level, moved_in, replaces, second, start_of,
+    KeyClass, cell, enters_arrays, first_bit, has_second, hoisted, is_other, item_mode, key_sort,
+    level, moved_in, replaces, second, start_of,
 };
 use walk::modes::{Deep, Mode};
 use walk::pieces::{Sourced, await_of, hole, source, string};
@@ -227,6 +227,7 @@ fn fields(
     let mut v = w;
     let mut r = row;
     let mut m = map;
+    // No counted loop: it takes digits off a number.
     while 0 < r {
         v = slot(v, t, out, list, work, c, r % 512, m % 2, l);
         r /= 1024;
@@ -989,7 +990,9 @@ fn lowered(
 {
     match b {
         ReferenceBuilder::Wanted {
-            cell: kept, stem, ..
+            cell: kept,
+            stem,
+            ..
         } => {
             let taken = b.create_read_expression();
             let u = w

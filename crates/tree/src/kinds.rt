@@ -1,4 +1,5 @@
-// The kinds of nodes, as the byte in front of a node has them.
+// The kinds of nodes, as the byte in front of a node has them. They are numbers, since any byte may stand there and most of the
+// code tests for a few of them.
 pub const PROGRAM: usize = 1;
 
 pub const BLOCK: usize = 2;
