@@ -5,12 +5,13 @@ ghost use Rattle.result.specs.Leftover.{leftover, is_rested, rest_met, meet_rest
 
 use rewritten::next;
 use rewritten::step::{Event, Step};
+use tree::kinds;
 
 // An object pattern whose bit map has its rest.
 fn is_rested(kind: usize, map: usize) -> bool
     ensures { result ≡ is_rested kind map }
 {
-    kind == 34 && map / 2 % 2 == 1
+    kind == kinds::OBJECT_PATTERN && map / 2 % 2 == 1
 }
 
 // What is met is one.
