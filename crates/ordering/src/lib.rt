@@ -10,7 +10,8 @@ ghost use Rattle.std.specs.Prelude.{◌≡◌};
 ghost use Rattle.rewritten.specs.Rewritten.{read_rewritten};
 ghost use Rattle.ordering.specs.Outcome.{answer_of, answer_number, order_number};
 
-// Answer 0 and -1, 0 or 1: the first is less than the second, equal or greater. Or the refusal 3, and 0.
+// Answer 0 and -1, 0 or 1: the first is less than the second, equal or greater. Or the refusal 3, and 0. Two numbers, since C reads
+// them.
 #[repr(C)]
 #[derive(Clone, Copy, Debug, PartialEq, Eq)]
 pub struct Ordered {

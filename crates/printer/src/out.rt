@@ -29,6 +29,7 @@ fn put_digits(out: &mut [u8], spot: usize, digits: usize) -> usize
 {
     let mut s = spot;
     let mut w = digits;
+    // No counted loop: it takes digits off a number.
     if spot < out.len() && 7 < out.len() - spot {
         while 0 < w {
             out[s] = (w % 256) as u8;
