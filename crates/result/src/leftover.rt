@@ -40,6 +40,7 @@ fn look(tree: &[u8], frames: &mut [usize]) -> bool
     }
     let mut cursor = next::begin();
     let mut met = false;
+    // A tour ends by itself: nothing is counted.
     loop {
         match next::next(tree, frames, cursor) {
             Step::Next(e, c) => {
