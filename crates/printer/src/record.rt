@@ -254,7 +254,7 @@ pub(crate) fn record(
     }
     let mut cursor = next::begin();
     let mut count = 0;
-    // A tour ends by itself: nothing is counted.
+    // A tour ends by itself; what is counted are the entries that are kept.
     loop {
         let Cursor { at, deep, top } = cursor;
         if look::is_closed(top) {

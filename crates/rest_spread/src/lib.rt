@@ -155,7 +155,7 @@ fn limit_refused(limit: u32) -> bool
     limit == 0 || HIGHEST_LIMIT < limit
 }
 
-// The same after the tests that need no reading. The slices are for the caller to clear on a refusal.
+// The tests that need no reading, then reading and lowering. The slices are for the caller to clear on a refusal.
 fn attempt(
     depth: u32,
     options: u32,
@@ -189,7 +189,8 @@ fn attempt(
     read_and_lower(limit, options, tree, &mut room[..2 * n], out, list, work)
 }
 
-// The lowering of a tree of at most `depth` levels. Any bytes, any limit, any options, slices of any lengths.
+// The lowering of a tree of at most `depth` levels: document 01's first section with request 5's limit. Any bytes, any limit, any
+// options, slices of any lengths.
 pub fn rest_spread_lower_within(
     depth: u32,
     options: u32,

@@ -1,7 +1,7 @@
 -- One law for each way out of a function: what it leaves is what the machine's definition says.
 -- Assumes nothing.
 use mathlib.Core.Path.{◌≡◌, refl, sym, ap, ◌∙◌}
-use mathlib.Core.Bool.{cond}
+use mathlib.Core.Bool.{true, cond}
 use mathlib.Core.List.{List, [], ◌∷◌, ◌++◌, append-nil}
 use Prim.Native.Nat.{ℕ, suc, ◌+◌, ◌-◌, ◌<◌, ◌≤◌}
 use native.Mathlib.Nat.{add-zero}
@@ -13,7 +13,7 @@ use lib.Seq.{set_out, paste, drop-cons, take_all, length-take-le}
 use borrow.Rule.Slice.PartMut.{put_mid, mid_of, mid_len, set_mid_at}
 use Rattle.std.proofs.lemmas.List.Edits.{sets, sets-eq}
 use Rattle.std.proofs.lemmas.Slice.{put_mid-paste}
-use borrow.Author.Tests.{lt-ltb, le-ltb}
+use borrow.Author.Tests.{lt-ltb, le-ltb, ne_eqb}
 use Rattle.sink.specs.Machine.{State, Event, state_of, with_tree, with_list, with_keys_of, with_entries, with_declarators, with_mark, with_helpers, low, high, part, one_more_of, set_wide, put_tree, put_list, put_keys, put_entry, set_cell, number_of, settle, listed_at, excluded_at, set_cell_in, with_helper, use_helper, next_mark, count_entry, count_declarator, all_tree, all_list_of, all_keys, step, steps, puts, lists, excludes, closed}
 use Rattle.sink.specs.Machine.Event.{put, helper, temporary, new_mark, make, listed, listed_temporary, entry, excluded, excluded_temporary, declarator}
 use Rattle.sink.proofs.Runs.{wide_right}
@@ -165,6 +165,32 @@ excluded_more s s₁ s₂ a b p q = chain s s₁ s₂ (excludes a) (excludes b) 
 -- ---- helpers
 
 -- ---- what is more than a byte
+
+-- ---- helpers
+
+pub with_spread : (u : Helpers) (h : ℕ) → h ≡ 1 → record { spread = true; extends = u.extends; empty = u.empty; without = u.without; key = u.key } ≡ with_helper u h
+unfolding with_helper
+with_spread u h e = rw e
+
+pub with_extends : (u : Helpers) (h : ℕ) → h ≡ 2 → record { spread = u.spread; extends = true; empty = u.empty; without = u.without; key = u.key } ≡ with_helper u h
+unfolding with_helper
+with_extends u h e = rw e
+
+pub with_empty : (u : Helpers) (h : ℕ) → h ≡ 3 → record { spread = u.spread; extends = u.extends; empty = true; without = u.without; key = u.key } ≡ with_helper u h
+unfolding with_helper
+with_empty u h e = rw e
+
+pub with_without : (u : Helpers) (h : ℕ) → h ≡ 4 → record { spread = u.spread; extends = u.extends; empty = u.empty; without = true; key = u.key } ≡ with_helper u h
+unfolding with_helper
+with_without u h e = rw e
+
+pub with_key : (u : Helpers) (h : ℕ) → h ≡ 5 → record { spread = u.spread; extends = u.extends; empty = u.empty; without = u.without; key = true } ≡ with_helper u h
+unfolding with_helper
+with_key u h e = rw e
+
+pub with_none : (u : Helpers) (h : ℕ) → (h ≡ 1 → ⊥) → (h ≡ 2 → ⊥) → (h ≡ 3 → ⊥) → (h ≡ 4 → ⊥) → (h ≡ 5 → ⊥) → u ≡ with_helper u h
+unfolding with_helper
+with_none u h a b c d e = rw (ne_eqb h 1 a, ne_eqb h 2 b, ne_eqb h 3 c, ne_eqb h 4 d, ne_eqb h 5 e)
 
 pub helper_is : (s s₁ s₂ : State) (u : Helpers) (h : ℕ) → u ≡ with_helper s.sink.helpers h
     → s₁ ≡ steps (state_of s.out s.list s.work (with_helpers s.sink u)) (puts (21 ∷ 1 ∷ [])) → s₂ ≡ step s₁ (put h) → s₂ ≡ step s (helper h)

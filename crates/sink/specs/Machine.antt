@@ -4,8 +4,6 @@ use Rattle.std.proofs.Math.Seq.{slice}
 use Rattle.sink.specs.declared.Helpers.{Helpers}
 use Rattle.sink.specs.declared.Sink.{Sink}
 use Rattle.sink.specs.declared.Written.{Written}
-use Rattle.sink.specs.declared.mask.Helper.{Helper}
-use Rattle.sink.specs.declared.mask.Helper.TheVariants.{Spread, Extends, Empty, Without, Key}
 
 pub data Event : Type 0 where
   put : ℕ → Event  -- a byte of the tree
@@ -166,14 +164,6 @@ unfoldable pub set_cell_in : State → ℕ → ℕ → State
 set_cell_in s c n = state_of s.out s.list (set_cell s.work c n) s.sink
 
 -- ---- helpers
-
--- the number by which the tree names a helper
-abbrev pub helper_number : Helper → ℕ
-helper_number Spread = 1
-helper_number Extends = 2
-helper_number Empty = 3
-helper_number Without = 4
-helper_number Key = 5
 
 unfoldable pub with_helper : Helpers → ℕ → Helpers
 with_helper u h =

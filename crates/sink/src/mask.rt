@@ -1,53 +1,44 @@
 // The helpers and their mask.
 ghost use Rattle.std.specs.Prelude.{◌≡◌, cond, ◌≤◌};
-ghost use Rattle.sink.specs.Machine.{with_helper, mask_of, helper_number};
+ghost use Rattle.sink.specs.Machine.{with_helper, mask_of};
 
 use crate::Helpers;
 
-// A helper that the tree can call, by document 01's order: S, X, E, W, K.
-#[derive(Clone, Copy, Debug, PartialEq, Eq)]
-pub enum Helper {
-    Spread = 1,
-    Extends = 2,
-    Empty = 3,
-    Without = 4,
-    Key = 5,
-}
+// The helpers by document 01's order: S, X, E, W, K. They are numbers, since `helper` answers for any byte.
+pub const SPREAD: u8 = 1;
 
-// The number by which the tree names a helper.
-impl From<Helper> for u8 {
-    ghost from_gives = { λ h n. n ≡ helper_number h };
+pub const EXTENDS: u8 = 2;
 
-    fn from(h: Helper) -> u8
-        ensures { result ≡ helper_number h }
-    {
-        h as u8
-    }
-}
+pub const EMPTY: u8 = 3;
+
+pub const WITHOUT: u8 = 4;
+
+pub const KEY: u8 = 5;
 
 impl Helpers {
-    #[tactic(auto, unfolding(crate::specs::Machine::with_helper))]
-    pub(crate) fn with(self, h: Helper) -> Helpers
-        ensures { result ≡ with_helper self (helper_number h) }
+    // A number that names no helper changes nothing.
+    pub(crate) fn with(self, h: u8) -> Helpers
+        ensures { result ≡ with_helper self h }
     {
         match h {
-            Helper::Spread => Helpers {
+            SPREAD => Helpers {
                 spread: true,
                 ..self
             },
-            Helper::Extends => Helpers {
+            EXTENDS => Helpers {
                 extends: true,
                 ..self
             },
-            Helper::Empty => Helpers {
+            EMPTY => Helpers {
                 empty: true,
                 ..self
             },
-            Helper::Without => Helpers {
+            WITHOUT => Helpers {
                 without: true,
                 ..self
             },
-            Helper::Key => Helpers { key: true, ..self },
+            KEY => Helpers { key: true, ..self },
+            _ => self,
         }
     }
 

@@ -1,10 +1,9 @@
 // What is written to the tree.
 ghost use Rattle.std.specs.Prelude.{◌≡◌, ℕ, ◌+◌, ◌≤◌, ltb, true, List, [], ◌∷◌, length};
 ghost use Rattle.sink.specs.declared.Sink.{Sink};
-ghost use Rattle.sink.specs.Machine.{helper_number, tree_limit, with_tree, state_of, step, steps, puts, low, high, part};
+ghost use Rattle.sink.specs.Machine.{tree_limit, with_tree, state_of, step, steps, puts, low, high, part};
 ghost use Rattle.sink.specs.Machine.Event.{put, helper, temporary, new_mark};
 
-use crate::mask::Helper;
 use crate::{Sink, bytes, cells};
 
 // A byte of the tree at a position; the next position. Past the limit nothing is written.
@@ -85,12 +84,12 @@ impl Sink {
         self
     }
 
-    // The node of a helper.
-    pub fn helper(mut self, out: &mut [u8], h: Helper) -> Sink
-        ensures { (l w : List ℕ) → state_of out.new l w result ≡ step (state_of out.old l w self) (helper (helper_number h)) }
+    // The node of helper h.
+    pub fn helper(mut self, out: &mut [u8], h: u8) -> Sink
+        ensures { (l w : List ℕ) → state_of out.new l w result ≡ step (state_of out.old l w self) (helper h) }
     {
         self.helpers = self.helpers.with(h);
-        self.put2(out, 21, 1).put(out, h.into())
+        self.put2(out, 21, 1).put(out, h)
     }
 
     // The next mark, for a new statement.

@@ -1,12 +1,12 @@
 // The helpers by the names that callers of the lowering know them by.
-use sink::mask::Helper;
+use sink::mask;
 
-pub(crate) const OBJECT_SPREAD: Helper = Helper::Spread;
+pub(crate) const OBJECT_SPREAD: u8 = mask::SPREAD;
 
-pub(crate) const EXTENDS: Helper = Helper::Extends;
+pub(crate) const EXTENDS: u8 = mask::EXTENDS;
 
-pub(crate) const OBJECT_DESTRUCTURING_EMPTY: Helper = Helper::Empty;
+pub(crate) const OBJECT_DESTRUCTURING_EMPTY: u8 = mask::EMPTY;
 
-pub const OBJECT_WITHOUT_PROPERTIES: Helper = Helper::Without;
+pub const OBJECT_WITHOUT_PROPERTIES: u8 = mask::WITHOUT;
 
-pub(crate) const TO_PROPERTY_KEY: Helper = Helper::Key;
+pub(crate) const TO_PROPERTY_KEY: u8 = mask::KEY;

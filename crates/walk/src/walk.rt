@@ -2,7 +2,7 @@
 ghost use Rattle.std.specs.Prelude.{◌≡◌, ◌&&◌, List, [], ◌∷◌, ◌++◌, ltb, ℕ, ◌%◌};
 ghost use Rattle.tree.specs.Tree.{wide_bytes};
 ghost use Rattle.lowering.specs.Numbers.{digits_of};
-ghost use Rattle.sink.specs.Machine.{part, tree_limit, helper_number};
+ghost use Rattle.sink.specs.Machine.{part, tree_limit};
 ghost use Rattle.sink.specs.Machine.Event.{helper, temporary, new_mark, make, listed_temporary, entry, excluded_temporary, declarator};
 ghost use Rattle.direct.specs.Events.{puts, lists, excludes};
 ghost use Rattle.direct.specs.Events.Deed.{does, refuses};
@@ -14,7 +14,6 @@ ghost use Rattle.walk.specs.Turns.{declaration_head, block_head, string_at};
 use crate::{helpers, stems, written};
 use pattern::numbers::digits_of;
 use sink::Sink;
-use sink::mask::Helper;
 
 // The output, the position in the input, the first refusal (0 for none). A refusal is a byte; as a word it is copied faster.
 #[derive(Clone, Copy)]
@@ -69,9 +68,9 @@ impl Walk {
         }
     }
 
-    // The head of a call of a helper.
-    pub fn call(self, out: &mut [u8], h: Helper, args: usize) -> Walk
-        ensures { ((l w : List ℕ) → Runs (going_of out.old l w self) (going_of out.new l w result) (call_head (helper_number h) (args % 65536))) × (result.at ≡ self.at) }
+    // The head of a call of helper h.
+    pub fn call(self, out: &mut [u8], h: u8, args: usize) -> Walk
+        ensures { ((l w : List ℕ) → Runs (going_of out.old l w self) (going_of out.new l w result) (call_head h (args % 65536))) × (result.at ≡ self.at) }
     {
         Walk {
             sink: self
