@@ -14,7 +14,7 @@ enum Refusal {
     PatternTooLong = 14,
 }
 
-// Answer 0 and the number; or the refusal, and 0.
+// Answer 0 and the number; or the refusal, and 0. Numbers, since C reads them.
 #[repr(C)]
 #[derive(Clone, Copy)]
 pub struct Counted {

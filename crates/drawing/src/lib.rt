@@ -48,7 +48,7 @@ enum Refusal {
     ZeroSeed = 8,
 }
 
-// Answer 0, the state after the tree and the length of the tree; or the refusal, and 0.
+// Answer 0, the state after the tree and the length of the tree; or the refusal, and 0. Numbers, since C reads them.
 #[repr(C)]
 #[derive(Clone, Copy)]
 pub struct Drawn {

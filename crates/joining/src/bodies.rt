@@ -129,6 +129,7 @@ pub(crate) fn collect(
         latest: 0,
         begun: 0,
     };
+    // A tour ends by itself: nothing is counted.
     loop {
         let at = cursor.at;
         let deep = cursor.deep;

@@ -22,6 +22,7 @@ fn declarators(list: &[u8], frames: &mut [usize], seen: &mut [u8], at: usize) ->
         deep: 0,
         top: n * 128 + 17,
     };
+    // A tour ends by itself: nothing is counted.
     loop {
         match next::next(list, frames, cursor) {
             Step::Next(e, c) => {

@@ -28,6 +28,7 @@ impl<'a> Filed<'a> {
         ensures { result ≡ searched tree.now self.now.earlier.now self.now.holds.now self.now.before.now mark self.now.latest }
     {
         let mut list = self.latest;
+        // Along chains of positions, which fall: nothing is counted.
         'containers: while 0 < list {
             let mut statement = table::at(self.holds, list);
             while 0 < statement {

@@ -119,6 +119,7 @@ fn blocks(more: &[u16], held: &[u16], start: usize, stop: usize) -> usize
     ensures { Quiet more.now held.now start stop result }
 {
     let mut i = start;
+    // In steps of 64, to the first that is not calm.
     while i < stop && 64 <= stop - i && calm(more, i, i + 64) && calm(held, i, i + 64) {
         i += 64;
     }
@@ -228,6 +229,7 @@ impl<'a> Source<'a> {
         let mut to = spot;
         let mut skip = false;
         let mut p = 4;
+        // From one change to the next: how many there are is not known before.
         while p < self.tree.len() {
             let q = place(self.more, self.held, skip, p, self.tree.len() - 1);
             let at = copy(out, to.at, self.tree, p, q);

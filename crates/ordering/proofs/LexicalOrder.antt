@@ -2,13 +2,14 @@
 -- Assumes nothing.
 use mathlib.Core.Path.{◌≡◌, refl, sym, ap, ap₂, subst, ◌∙◌}
 use mathlib.Core.List.{List, [], ◌∷◌}
-use Prim.Native.Nat.{ℕ, ◌<◌}
+use Prim.Native.Nat.{ℕ, zero, suc, ◌<◌}
+use lib.IntN.{ℤ, pos, negsuc}
 use native.Mathlib.Omega.{arith}
 use Rattle.std.specs.Cmp.{IsTotalOrder}
 use Rattle.std.specs.declared.cmp.Ordering.{Ordering}
 use Rattle.std.specs.declared.cmp.Ordering.TheVariants.{Less, Equal, Greater}
 use Rattle.std.proofs.lemmas.Cmp.{ranked, by_ranked, alike_right, on_total, lists_total}
-use Rattle.ordering.specs.Verdicts.{or_else, by_value, by_text, lexical}
+use Rattle.ordering.specs.Verdicts.{or_else, by_value, by_text, lexical, number_of}
 
 -- ---- verdicts
 
@@ -35,6 +36,21 @@ pub or_or : (u v w : Ordering) → or_else (or_else u v) w ≡ or_else u (or_els
 or_or Less v w = refl
 or_or Equal v w = refl
 or_or Greater v w = refl
+
+-- no two have the same number
+verdict_by : ℤ → Ordering
+verdict_by (pos zero) = Equal
+verdict_by (pos (suc n)) = Greater
+verdict_by (negsuc n) = Less
+
+by_number : (v : Ordering) → verdict_by (number_of v) ≡ v
+unfolding verdict_by
+by_number Less = refl
+by_number Equal = refl
+by_number Greater = refl
+
+pub verdict_is : (v w : Ordering) → number_of v ≡ number_of w → v ≡ w
+verdict_is v w e = sym (by_number v) ∙ ap verdict_by e ∙ by_number w
 
 pub both_equal : (v w : Ordering) → or_else v w ≡ Equal → (v ≡ Equal) × (w ≡ Equal)
 both_equal Less w e = absurd (less_not_equal e)

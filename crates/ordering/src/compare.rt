@@ -42,6 +42,7 @@ fn compare(
         met: 0,
     };
     let mut b = a;
+    // A tour ends by itself: nothing is counted.
     loop {
         let m = side::advance(first, frames, table, a);
         let n = side::advance(second, others, places, b);

@@ -6,6 +6,7 @@ ghost use Rattle.ordering.specs.Sides.{KeyIs, Within, number_in};
 
 use rewritten::step::Event;
 use std::cmp::Ordering;
+use tree::kinds;
 
 // Three numbers and a text, compared in this order.
 #[derive(Clone, Copy, PartialEq, Eq, PartialOrd, Ord)]
@@ -79,7 +80,7 @@ pub(crate) fn opens_temporary(e: Event) -> bool
     ensures { (tree : List ℕ) → result ≡ opens_temporary (event_in tree e) }
 {
     match e {
-        Event::Begins(_, kind, _) => kind == 20,
+        Event::Begins(_, kind, _) => kind == kinds::TEMPORARY,
         _ => false,
     }
 }

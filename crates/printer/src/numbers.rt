@@ -1,4 +1,5 @@
-// Numbers in slices that a call lends: 0 where there is none, and nothing is kept past the end.
+// Numbers in slices that a call lends: 0 where there is none, and nothing is kept past the end. One function a width, since a
+// number of 32 bits has no `From` to `usize`.
 ghost use Rattle.std.specs.Prelude.{◌≡◌, ◌<◌, get_or, set};
 
 pub(crate) fn number_at(numbers: &[usize], i: usize) -> usize

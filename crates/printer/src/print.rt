@@ -230,7 +230,7 @@ pub(crate) fn opening(
     )
 }
 
-// The same at a plain place.
+// The same at a plain place. A way of its own, and the next one too: what nodes and names share took longer (docs/SPEED-STEPS.md).
 pub(crate) fn plain_opening(
     words: &[usize],
     text: &mut [u8],

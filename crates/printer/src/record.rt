@@ -254,6 +254,7 @@ pub(crate) fn record(
     }
     let mut cursor = next::begin();
     let mut count = 0;
+    // A tour ends by itself: nothing is counted.
     loop {
         let Cursor { at, deep, top } = cursor;
         if look::is_closed(top) {

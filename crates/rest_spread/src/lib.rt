@@ -21,6 +21,7 @@ use walk::place::Place;
 use walk::walk::Walk;
 
 // Document 01's answer (0, or the number of a refusal), the mask of helpers, that of options, and the lengths of tree and list.
+// Numbers, since C reads them.
 #[repr(C)]
 #[derive(Clone, Copy)]
 pub struct Lowered {

@@ -5,12 +5,13 @@ ghost use Rattle.result.specs.Leftover.{leftover, is_rested, rest_met, meet_rest
 
 use rewritten::next;
 use rewritten::step::{Event, Step};
+use tree::kinds;
 
 // An object pattern whose bit map has its rest.
 fn is_rested(kind: usize, map: usize) -> bool
     ensures { result ≡ is_rested kind map }
 {
-    kind == 34 && map / 2 % 2 == 1
+    kind == kinds::OBJECT_PATTERN && map / 2 % 2 == 1
 }
 
 // What is met is one.
@@ -39,6 +40,7 @@ fn look(tree: &[u8], frames: &mut [usize]) -> bool
     }
     let mut cursor = next::begin();
     let mut met = false;
+    // A tour ends by itself: nothing is counted.
     loop {
         match next::next(tree, frames, cursor) {
             Step::Next(e, c) => {

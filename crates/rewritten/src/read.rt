@@ -14,6 +14,7 @@ fn read(tree: &[u8], frames: &mut [usize], seen: &mut [u8]) -> bool
     }
     seen::clear(seen);
     let mut cursor = next::begin();
+    // A tour ends by itself: nothing is counted.
     loop {
         let Cursor { at, deep, top } = cursor;
         if look::is_closed(top) {

@@ -1,7 +1,6 @@
 -- src/main.rt:8:38
 use mathlib.Core.Path.{sym}
 use lib.Seq.{length-take-le}
-use borrow.Author.Rules.{rules}
 use Rattle.text.proofs.show.Goals as goal
 
 pub slice_bounds-write_all-end : goal.slice_bounds-write_all-end
