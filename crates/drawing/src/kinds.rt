@@ -10,7 +10,7 @@ struct Place {
     shortest: u8,
 }
 
-const PLACES: [Place; 26] = [
+static PLACES: [Place; 26] = [
     Place {
         kinds: &[1],
         shortest: 1,
