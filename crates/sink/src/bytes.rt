@@ -1,5 +1,5 @@
 // Bytes and 16-bit numbers of a slice, total: what is past the end reads as 0, and is not written.
-ghost use Rattle.std.specs.Prelude.{◌≡◌, get_or, set};
+ghost use Rattle.std.specs.Prelude.{◌≡◌, get_or, set, length};
 ghost use Rattle.sink.specs.Machine.{wide_in, set_wide, one_more_of, low, high, part};
 
 fn byte(s: &[u8], at: usize) -> u8
@@ -66,4 +66,15 @@ pub(crate) fn one_more(n: usize, greatest: usize) -> usize
     ensures { result ≡ one_more_of greatest n }
 {
     n.saturating_add(1).min(greatest)
+}
+
+// Bytes go over as many others. By hand: the library's `copy_from_slice` is a call of memmove in an archive for C, which asks for
+// memset alone.
+pub(crate) fn copy_over(to: &mut [u8], from: &[u8])
+    requires { length to.old ≡ length from.now }
+    ensures { to.new ≡ from.now }
+{
+    for i in 0..from.len() {
+        to[i] = from[i];
+    }
 }

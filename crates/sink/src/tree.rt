@@ -31,7 +31,7 @@ fn copy_whole(out: &mut [u8], at: usize, bytes: &[u8]) -> usize
     ensures { (k : Sink) (l w : List ℕ) → state_of out.new l w (with_tree k result) ≡ steps (state_of out.old l w (with_tree k at)) (puts bytes.now) }
 {
     let end = at + bytes.len();
-    out[at..end].copy_from_slice(bytes);
+    bytes::copy_over(&mut out[at..end], bytes);
     end
 }
 
