@@ -24,14 +24,15 @@ pub fn begin(out: &mut [u8], list: &mut [u8], work: &mut [u8], mark: usize) -> S
     }
 }
 
-// Every lent byte is 0: a refusal.
+// Every lent byte is 0, and nothing is handed on: a refusal.
 #[tactic(auto, unfolding(crate::specs::Machine::nothing))]
-pub fn abandon(out: &mut [u8], list: &mut [u8], work: &mut [u8])
-    ensures { end_of out.new list.new work.new (handed_of None) ≡ nothing (length out.old) (length list.old) (length work.old) }
+pub fn abandon(out: &mut [u8], list: &mut [u8], work: &mut [u8]) -> Option<Written>
+    ensures { end_of out.new list.new work.new (handed_of result) ≡ nothing (length out.old) (length list.old) (length work.old) }
 {
     out.fill(0);
     list.fill(0);
     work.fill(0);
+    None
 }
 
 // Whether a length is above its limit or its slice.
@@ -63,8 +64,7 @@ impl Sink {
         ensures { end_of out.new list.new work.new (handed_of result) ≡ ended (state_of out.old list.old work.old self) }
     {
         if over(32768, out.len(), self.tree) || over(16384, list.len(), self.list) {
-            abandon(out, list, work);
-            return None;
+            return abandon(out, list, work);
         }
         work.fill(0);
         Some(Written {
