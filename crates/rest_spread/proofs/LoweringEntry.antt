@@ -138,16 +138,11 @@ pub handed_fits : (options : ℕ) (o l w : List ℕ) (r : Written) (e : Ended) �
 unfolding outcome_from
 handed_fits options o l w r e h = ap (outcome_from options) h
 
-pub handed_over : (options : ℕ) (o l w : List ℕ) (e : Ended) → end_of o l w (handed_of None) ≡ e
-    → handed_back (record { answer = 7; helpers = 0; options = 0; tree_len = 0; list_len = 0 }) o l w ≡ outcome_from options e
+pub handed_over : (options answer : ℕ) (o l w : List ℕ) (e : Ended) → answer ≡ too_long_of → end_of o l w (handed_of None) ≡ e
+    → handed_back (record { answer = answer; helpers = 0; options = 0; tree_len = 0; list_len = 0 }) o l w ≡ outcome_from options e
 unfolding outcome_from
-handed_over options o l w e h = ap (outcome_from options) h
-
--- an outcome with the number of a refusal is that of the refusal
-answered : (s : Lent) (r : Result) (n : ℕ) → 0 < n → n ≡ (outcome_of s r).answer → outcome_of s (Result.refusal n) ≡ outcome_of s r
-unfolding outcome_of
-answered s (Result.refusal m) n p e = ap (λ (k : ℕ). outcome_of s (Result.refusal k)) e
-answered s (Result.lowered h o t l) n p e = absurd (omega arith)
+handed_over options answer o l w e seven h =
+    ap (λ (n : ℕ). handed_back (record { answer = n; helpers = 0; options = 0; tree_len = 0; list_len = 0 }) o l w) seven ∙ ap (outcome_from options) h
 
 -- ---- what the reader answers
 
@@ -245,12 +240,12 @@ module _ (limit options : ℕ) (tree out list work : List ℕ) where
           ≡ outcome_of s (after_reading options s (got n q mark))
       ends_fits o'' l'' w'' v none' e = ends_handed _ none' (handed_fits options o'' l'' w'' v (finished (state_of o' l' w' k')) e)
 
-      pub ends_over : (o'' l'' w'' : List ℕ) → r' ≡ 0 → end_of o'' l'' w'' (handed_of None) ≡ finished (state_of o' l' w' k')
+      pub ends_over : (answer : ℕ) (o'' l'' w'' : List ℕ) → r' ≡ 0 → answer ≡ too_long_of → end_of o'' l'' w'' (handed_of None) ≡ finished (state_of o' l' w' k')
           → (given : List ℕ) (n : Node) (q : ℕ) → Bytes given → 65536 ≤ length work → read_tree input limit given ≡ got n q mark → Noted limit slice n q mark
-          → outcome_of s (Result.refusal too_long_of) ≡ outcome_of s (after_reading options s (got n q mark))
-      ends_over o'' l'' w'' none' e given n q bytes big read known =
-          answered s (after_reading options s (got n q mark)) too_long_of (omega arith)
-          (ap (λ (x : Outcome). x.answer) (ends_handed _ none' (handed_over options o'' l'' w'' (finished (state_of o' l' w' k')) e) given n q bytes big read known))
+          → handed_back (record { answer = answer; helpers = 0; options = 0; tree_len = 0; list_len = 0 }) o'' l'' w''
+          ≡ outcome_of s (after_reading options s (got n q mark))
+      ends_over answer o'' l'' w'' none' seven e =
+          ends_handed _ none' (handed_over options answer o'' l'' w'' (finished (state_of o' l' w' k')) seven e)
 
   -- what is handed back is the outcome, where it is asked for before the tree is read: `refused` is what the test gave
   module _ (refused : Bool) (tested : refused ≡ limit_refused limit) where

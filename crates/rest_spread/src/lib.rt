@@ -118,8 +118,15 @@ fn lower(
     if 0 < refusal {
         return Err(Refusal::Walk(low(refusal)));
     }
+    // Where the result is too long, all that was lent is cleared by then, and not once more.
     let Some(written) = v.sink.finish(out, list, work) else {
-        return Err(Refusal::TooLong);
+        return Ok(Lowered {
+            answer: u8::from(Refusal::TooLong),
+            helpers: 0,
+            options: 0,
+            tree_len: 0,
+            list_len: 0,
+        });
     };
     Ok(Lowered {
         answer: 0,
