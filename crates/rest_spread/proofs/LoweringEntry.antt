@@ -144,6 +144,12 @@ unfolding outcome_from
 handed_over options answer o l w e seven h =
     ap (λ (n : ℕ). handed_back (record { answer = n; helpers = 0; options = 0; tree_len = 0; list_len = 0 }) o l w) seven ∙ ap (outcome_from options) h
 
+-- an outcome with the number of a refusal is that of the refusal
+answered : (s : Lent) (r : Result) (n : ℕ) → 0 < n → n ≡ (outcome_of s r).answer → outcome_of s (Result.refusal n) ≡ outcome_of s r
+unfolding outcome_of
+answered s (Result.refusal m) n p e = ap (λ (k : ℕ). outcome_of s (Result.refusal k)) e
+answered s (Result.lowered h o t l) n p e = absurd (omega arith)
+
 -- ---- what the reader answers
 
 refused_by : (g : Got Node) (m : reader.Refusal) → Answers (Err m) g → (r : Refusal) × ((g ≡ Got.refused r) × (refusal_number m ≡ number_of r))
@@ -240,12 +246,21 @@ module _ (limit options : ℕ) (tree out list work : List ℕ) where
           ≡ outcome_of s (after_reading options s (got n q mark))
       ends_fits o'' l'' w'' v none' e = ends_handed _ none' (handed_fits options o'' l'' w'' v (finished (state_of o' l' w' k')) e)
 
-      pub ends_over : (answer : ℕ) (o'' l'' w'' : List ℕ) → r' ≡ 0 → answer ≡ too_long_of → end_of o'' l'' w'' (handed_of None) ≡ finished (state_of o' l' w' k')
+      -- where the result is too long, what is handed back is the outcome
+      pub ends_too_long : (answer : ℕ) (o'' l'' w'' : List ℕ) → r' ≡ 0 → answer ≡ too_long_of → end_of o'' l'' w'' (handed_of None) ≡ finished (state_of o' l' w' k')
           → (given : List ℕ) (n : Node) (q : ℕ) → Bytes given → 65536 ≤ length work → read_tree input limit given ≡ got n q mark → Noted limit slice n q mark
           → handed_back (record { answer = answer; helpers = 0; options = 0; tree_len = 0; list_len = 0 }) o'' l'' w''
           ≡ outcome_of s (after_reading options s (got n q mark))
-      ends_over answer o'' l'' w'' none' seven e =
+      ends_too_long answer o'' l'' w'' none' seven e =
           ends_handed _ none' (handed_over options answer o'' l'' w'' (finished (state_of o' l' w' k')) seven e)
+
+      -- and the outcome is that of its number
+      pub ends_over : (o'' l'' w'' : List ℕ) → r' ≡ 0 → end_of o'' l'' w'' (handed_of None) ≡ finished (state_of o' l' w' k')
+          → (given : List ℕ) (n : Node) (q : ℕ) → Bytes given → 65536 ≤ length work → read_tree input limit given ≡ got n q mark → Noted limit slice n q mark
+          → outcome_of s (Result.refusal too_long_of) ≡ outcome_of s (after_reading options s (got n q mark))
+      ends_over o'' l'' w'' none' e given n q bytes big read known =
+          answered s (after_reading options s (got n q mark)) too_long_of (omega arith)
+          (ap (λ (x : Outcome). x.answer) (ends_too_long too_long_of o'' l'' w'' none' refl e given n q bytes big read known))
 
   -- what is handed back is the outcome, where it is asked for before the tree is read: `refused` is what the test gave
   module _ (refused : Bool) (tested : refused ≡ limit_refused limit) where

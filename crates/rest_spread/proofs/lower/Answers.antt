@@ -15,7 +15,7 @@ returns-then-refusal-gt0 c =
 
 pub returns-in_default : goal.returns-in_default
 returns-in_default c =
-    law.ends_over _ _ c.args.tree.now c.args.out.now c.args.list.now c.args.work.now _ c.args.tree.now (λ i. omega (arith, c.type_inv.tree i)) _ _ _ _ (begun_twins _ c.args.work.now c.min-cells.ensures _ _ _ _ _ _ _ c.begin-k.ensures) _ _ _ _ _ c.node-v.ensures.1 _ _ _ _ (omega (arith, c.if-refusal-gt0.false)) c.from.ensures c.in_default.ensures
+    law.ends_too_long _ _ c.args.tree.now c.args.out.now c.args.list.now c.args.work.now _ c.args.tree.now (λ i. omega (arith, c.type_inv.tree i)) _ _ _ _ (begun_twins _ c.args.work.now c.min-cells.ensures _ _ _ _ _ _ _ c.begin-k.ensures) _ _ _ _ _ c.node-v.ensures.1 _ _ _ _ (omega (arith, c.if-refusal-gt0.false)) c.from.ensures c.in_default.ensures
 
 pub returns : goal.returns
 returns c =
